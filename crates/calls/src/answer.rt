@@ -1,4 +1,6 @@
 // What a call answers, with the bounds that the parts of an output line have.
+ghost use mathlib.Core.Path.{_≡_};
+ghost use Rattle.calls.specs.Answers.{refusal-number};
 
 // Why a call was refused; `number` is what a line shows and what C is told.
 #[derive(Clone, Copy, PartialEq, Eq, Debug)]
@@ -47,4 +49,20 @@ pub enum Answer {
     Same(bool),
     Tally(Usage),
     Step(Report),
+}
+
+impl Refusal {
+    pub fn number(self) -> u8
+        ensures { λ r. ⌜ r ≡ refusal-number self ⌝ }
+    {
+        match self {
+            Refusal::Root => 1,
+            Refusal::Empty => 2,
+            Refusal::Missing => 3,
+            Refusal::Shape => 4,
+            Refusal::Full => 5,
+            Refusal::Range => 6,
+            Refusal::Buffer => 7,
+        }
+    }
 }

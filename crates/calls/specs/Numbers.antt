@@ -1,0 +1,51 @@
+-- Numbers as a script and an output line have them.
+use mathlib.Core.Bool.{Bool, true, false, cond, not, _&&_}
+use mathlib.Core.List.{List, [], _∷_, _++_}
+use Prim.Native.Nat.{ℕ, zero, suc, _+_, _-_, _*_, _/_, _%_}
+use lib.Dec.{eqb, leb}
+use lib.IntN.{ℤ, pos, negsuc}
+use Rattle.std.specs.declared.option.Option.{Option}
+use Rattle.std.specs.declared.option.Option.the-variants.{Some, None}
+
+-- a digit's byte is from 48 to 57
+abbrev pub is-digit : ℕ → Bool
+is-digit c = leb 48 c && leb c 57
+
+-- n and then these digits, as long as that is at most 4,294,967,295
+abbrev pub onward : ℕ → List ℕ → Option ℕ
+onward n [] = Some n
+onward n (c ∷ cs) = cond (is-digit c && leb (n * 10 + (c - 48)) 4294967295) (onward (n * 10 + (c - 48)) cs) None
+
+-- there is a byte, and no 0 in front of another
+abbrev pub no-leading-zero : List ℕ → Bool
+no-leading-zero [] = false
+no-leading-zero (c ∷ []) = true
+no-leading-zero (c ∷ d ∷ cs) = not (eqb c 48)
+
+-- the number from 0 to 4,294,967,295 that these bytes write
+abbrev pub natural-of : List ℕ → Option ℕ
+natural-of text = cond (no-leading-zero text) (onward 0 text) None
+
+abbrev pub plus : Option ℕ → Option ℤ
+plus None = None
+plus (Some n) = cond (leb n 2147483647) (Some (pos n)) None
+
+-- there is no -0, and -2,147,483,648 is the least
+abbrev pub minus : Option ℕ → Option ℤ
+minus None = None
+minus (Some zero) = None
+minus (Some (suc n)) = cond (leb n 2147483647) (Some (negsuc n)) None
+
+-- the number from -2,147,483,648 to 2,147,483,647 that these bytes write; byte 45 is the minus sign
+abbrev pub integer-of : List ℕ → Option ℤ
+integer-of [] = None
+integer-of (c ∷ cs) = cond (eqb c 45) (minus (natural-of cs)) (plus (natural-of (c ∷ cs)))
+
+-- at most k digits of n: those of its tenth part, if that is not 0, then its last digit
+abbrev pub digits-by : ℕ → ℕ → List ℕ
+digits-by zero n = []
+digits-by (suc k) n = elim (eqb (n / 10) 0) [ true ↦ [] | false ↦ digits-by k (n / 10) ] ++ (48 + n % 10) ∷ []
+
+-- no number of 64 bits has more than 20
+unfoldable pub digits : ℕ → List ℕ
+digits n = digits-by 20 n

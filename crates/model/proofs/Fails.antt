@@ -1,0 +1,70 @@
+-- A step always finds a free car and copies little, and nothing that is held is lost.
+use Prim.Native.Nat.{ℕ, zero, suc, _+_, _≤_, _<_}
+use mathlib.Core.List.{List, [], _∷_, _++_}
+use mathlib.Core.Path.{_≡_, refl, sym, ap, subst, _∙_}
+use native.Mathlib.Omega.{arith}
+use lib.ListN.{getD}
+use Rattle.std.specs.declared.option.Option.{Option}
+use Rattle.std.specs.declared.option.Option.the-variants.{Some, None}
+use Rattle.layout.specs.Meaning.{Meaning, Lawful}
+use Rattle.remembered.specs.Meaning.{Meaning as Remembers}
+use Rattle.model.specs.Calls.{Call, make, access, step, tally, Access, report, Report, Answer, History}
+use Rattle.model.specs.Bodies.{Body, fresh, is-root, Reply, reply-of}
+use Rattle.model.specs.Trains.{Obj, Car, Train, Trains, train-objects, objects, words-of, inside, times, car-words}
+use Rattle.model.specs.Claims.{Wish}
+use Rattle.model.specs.Step.{first-to, outside, wishes}
+use Rattle.model.specs.Space.{Model, all-objects, carried, space-make, has-room, step-by, step-on, act, space-of, Use}
+use Rattle.model.specs.Reach.{Space-reaches}
+use Rattle.model.specs.Laws.{Free-car, moment, Copies-few, Copies-few-if-step, Copies-few-each, Steps-never-fail, steps-never-fail}
+use Rattle.model.proofs.Sound.{All, Sized, Filled, Sound-at, Sound}
+use Rattle.model.proofs.Alls.{all-left}
+use Rattle.model.proofs.Cars.{few-cars, free-car, free-at-moment, copied-few}
+use Rattle.model.proofs.Outside.{claims-below, wishes-below}
+use Rattle.model.proofs.Keeps.{inside-body, sound-of}
+use Rattle.model.proofs.Sim.{reached-lies}
+
+first-filled : (f : Car) (cs : Train) → Filled (f ∷ cs) → words-of (f .objects) ≤ car-words
+first-filled f [] h = h .1
+first-filled f (d ∷ cs) h = h .1
+
+moments : (m : Model) (ts : Trains) → Sound-at (m .made) (m .roots) ts (m .mark) → (n : ℕ) → Free-car (moment n m ts)
+moments m [] s n = free-car [] (omega arith)
+moments m ([] ∷ ts) s n = absurd (omega (arith, s .standing .0))
+moments m ((f ∷ cs) ∷ ts) s n =
+    free-at-moment f cs ts m (s .filled) (s .room) (s .few) (all-left Sized (f .objects) (train-objects cs) (all-left Sized (f .objects ++ train-objects cs) (objects ts) (s .sized)))
+    (claims-below (wishes (m .roots) (m .mark) f cs ts) (f .objects) (wishes-below (m .roots) (m .mark) f cs ts (s .few) (s .mark))) n
+
+step-copies : (M : Meaning) (has : Remembers) (ts : Trains) (m : Model) → Sound-at (m .made) (m .roots) ts (m .mark) → Copies-few (step-on M has ts m .answer)
+step-copies M has [] m s = (_, (refl, omega arith))
+step-copies M has ([] ∷ ts) m s = absurd (omega (arith, s .standing .0))
+step-copies M has ((f ∷ cs) ∷ ts) m s = go (first-to (train-objects (f ∷ cs)) (outside (m .roots) ((f ∷ cs) ∷ ts) ts))
+  where
+    go : (w : Option Wish) → Copies-few (step-by M has w (f ∷ cs) ts m .answer)
+    go None = (_, (refl, omega arith))
+    go (Some w) = (_, (refl, copied-few f (wishes (m .roots) (m .mark) f cs ts) (first-filled f cs (s .filled .0))))
+
+module _ (M : Meaning) (law : Lawful M) (has : Remembers) where
+  copies-of : (h : History) → Use M has h → Copies-few-each h
+  copies-of [] u = tt
+  copies-of (e ∷ h) u = (go (e .call) (u .0), copies-of h (u .1))
+    where
+      go : (c : Call) → e .answer ≡ act M has c (space-of M has h) .answer → Copies-few-if-step c (e .answer)
+      go (make r k a b) q = tt
+      go (access c) q = tt
+      go step q = subst Copies-few (sym q) (step-copies M has (space-of M has h .trains) (space-of M has h) (sound-of M law has h))
+      go tally q = tt
+
+pub never-fail-law : steps-never-fail
+never-fail-law M law has h u =
+    let m = space-of M has h in
+    let s = sound-of M law has h in
+    let few = few-cars (m .trains) (s .filled) (s .room) (s .few) in
+    record {
+      free = free-car (m .trains) (omega (arith, few));
+      free-in-a-step = moments m (m .trains) s;
+      copies = copies-of M law has h u;
+      nothing-lost = λ x p. omega (arith, s .once x, reached-lies m s x p);
+      nothing-dangles = λ x y i b f e.
+          let l = inside-body (λ d. (i y : ℕ) → getD (d .refs) i None ≡ Some y → 1 ≤ times y (all-objects m)) (all-objects m) x b (s .refs) f i y e in
+          omega (arith, s .once y, l);
+    }

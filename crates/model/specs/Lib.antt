@@ -1,0 +1,11 @@
+pub mod Calls
+pub mod Bodies
+pub mod Plain
+pub mod Trains
+pub mod Claims
+pub mod Step
+pub mod Notes
+pub mod Space
+pub mod Reach
+pub mod Laws
+pub mod Examples
