@@ -1,7 +1,7 @@
 -- Numbers as a script and an output line have them.
 use mathlib.Core.Bool.{Bool, true, false, cond, not, _&&_}
 use mathlib.Core.List.{List, [], _∷_, _++_}
-use Prim.Native.Nat.{ℕ, zero, suc, _+_, _-_, _*_, _/_, _%_}
+use Prim.Native.Nat.{ℕ, zero, suc, _+_, _-_, _*_, _/_, _%_, _≤_}
 use lib.Dec.{eqb, leb}
 use lib.IntN.{ℤ, pos, negsuc}
 use Rattle.std.specs.declared.option.Option.{Option}
@@ -47,5 +47,15 @@ digits-by zero n = []
 digits-by (suc k) n = elim (eqb (n / 10) 0) [ true ↦ [] | false ↦ digits-by k (n / 10) ] ++ (48 + n % 10) ∷ []
 
 -- no number of 64 bits has more than 20
-unfoldable pub digits : ℕ → List ℕ
-digits n = digits-by 20 n
+unfoldable pub digits-of : ℕ → List ℕ
+digits-of n = digits-by 20 n
+
+-- a number as a script has it: a minus sign before the digits of a negative one
+abbrev pub signed-digits : ℤ → List ℕ
+signed-digits (pos n) = digits-of n
+signed-digits (negsuc n) = 45 ∷ digits-of (suc n)
+
+-- from -2,147,483,648 to 2,147,483,647
+abbrev pub Fits-lift : ℤ → Type 0
+Fits-lift (pos n) = n ≤ 2147483647
+Fits-lift (negsuc n) = n ≤ 2147483647

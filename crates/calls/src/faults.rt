@@ -34,16 +34,11 @@ pub struct PlayerFault {
 pub impl From<WordFault> for LineFault as LineFromWord {
     ghost converts = { λ word line. line ≡ line-fault word };
 
-    fn from(fault: WordFault) -> LineFault {
-        let WordFault {
-            number,
-            line,
-            place,
-        } = fault;
+    fn from(word: WordFault) -> LineFault {
         LineFault {
-            number,
-            line,
-            place,
+            number: word.number,
+            line: word.line,
+            place: word.place,
         }
     }
 }
@@ -52,17 +47,11 @@ pub impl From<LineFault> for PlayerFault as PlayerFromLine {
     ghost converts = { λ line player. player ≡ player-fault line };
 
     fn from(fault: LineFault) -> PlayerFault {
-        let LineFault {
-            number,
-            line,
-            place,
-        } = fault;
-        let layer = Layer::Reader;
         PlayerFault {
-            layer,
-            number,
-            line,
-            place,
+            layer: Layer::Reader,
+            number: fault.number,
+            line: fault.line,
+            place: fault.place,
         }
     }
 }

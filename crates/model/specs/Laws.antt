@@ -103,16 +103,19 @@ abbrev pub numbered : (a n : ℕ) → List ℕ
 numbered a zero = []
 numbered a (suc n) = a ∷ numbered (a + 1) n
 
--- xs lists what is reachable at the halt; made-since are the identities made after it
-abbrev pub words-in-use-are-of-the-reachable-and-the-new : Type 0
-words-in-use-are-of-the-reachable-and-the-new =
-    (M : Meaning) → Lawful M → (has : Remembers) (h more : History) → Use M has (more ++ h)
+-- xs lists what is reachable at the halt; what was made after it has the identities from there on
+abbrev pub Words-bounded : Meaning → Remembers → Type 0
+Words-bounded M has =
+    (h more : History) → Use M has (more ++ h)
     → (length (space-of M has h .trains) + 1) * train-steps ≤ steps more
     → (xs : List ℕ) → ((x : ℕ) → Space-reaches (space-of M has h) x → one-of x xs ≡ true)
     → let m = space-of M has h in
-    let n = space-of M has (more ++ h) in
-    let es = graph-of M (more ++ h) .entries in
-    words-in-use (n .trains) ≤ sizes es xs + sizes es (numbered (m .made) (n .made - m .made))
+      let n = space-of M has (more ++ h) in
+      let es = graph-of M (more ++ h) .entries in
+      words-in-use (n .trains) ≤ sizes es xs + sizes es (numbered (m .made) (n .made - m .made))
+
+abbrev pub words-in-use-are-of-the-reachable-and-the-new : Type 0
+words-in-use-are-of-the-reachable-and-the-new = (M : Meaning) → Lawful M → (has : Remembers) → Words-bounded M has
 
 -- the trains while a step goes on, the first car not yet freed: n objects were placed
 abbrev pub moment : ℕ → Model → Trains → Trains
@@ -151,3 +154,11 @@ pub record Steps-never-fail (M : Meaning) (has : Remembers) (h : History) : Type
 
 abbrev pub steps-never-fail : Type 0
 steps-never-fail = (M : Meaning) → Lawful M → (has : Remembers) (h : History) → Use M has h → Steps-never-fail M has h
+
+-- all the laws for one layout and one remembered set
+pub record Laws-of (M : Meaning) (has : Remembers) : Type 0 where
+  pub answers : (h : History) → Use M has h → Answers-as-the-graph M has h
+  pub never-fail : (h : History) → Use M has h → Steps-never-fail M has h
+  pub sooner : (h : History) → Use M has h → (j : ℕ) → Waste-up-to j (space-of M has h) → Gone-after M has h ((j + 1) * train-steps)
+  pub counted : (h : History) → Use M has h → Gone-after M has h ((length (space-of M has h .trains) + 1) * train-steps)
+  pub words-bounded : Words-bounded M has

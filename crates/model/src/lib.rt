@@ -1,7 +1,9 @@
 // The definition of the space (specs/), and the laws over whole uses that are proved of it: for every layout, every
 // remembered set and every history. No code stands here; each function carries one law in its contract.
 ghost use Rattle.model.specs.Examples.{Worked-examples};
-ghost use Rattle.model.specs.Laws.{answers-are-the-plain-graphs, steps-never-fail, waste-near-the-front-leaves-sooner, waste-leaves-in-counted-steps, words-in-use-are-of-the-reachable-and-the-new};
+ghost use Rattle.model.specs.Laws.{answers-are-the-plain-graphs, steps-never-fail, waste-near-the-front-leaves-sooner, waste-leaves-in-counted-steps, words-in-use-are-of-the-reachable-and-the-new, Laws-of};
+use layout::Layout;
+use remembered::RememberedSet;
 
 // At every halt each answer is the plain graph's, a make is refused as full exactly when the words would exceed the
 // capacity, and the roots reach the same in both.
@@ -29,6 +31,11 @@ pub fn waste_leaves_in_counted_steps()
 // From then on the words in use are at most those of the objects reachable at the halt and of the objects made after it.
 pub fn words_in_use_are_of_the_reachable_and_the_new()
     ensures { λ _. ⌜ words-in-use-are-of-the-reachable-and-the-new ⌝ }
+{}
+
+// All of these for a layout and a remembered set of the code, by what they mean.
+pub fn laws_of<L: Layout, R: RememberedSet>()
+    ensures { λ _. ⌜ Laws-of (L·Layout .meaning) (R·RememberedSet .means) ⌝ }
 {}
 
 // What the definitions give for the worked examples.

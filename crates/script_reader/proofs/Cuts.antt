@@ -68,10 +68,10 @@ lines-step b [] = lines-by (eqb b 10) b [] refl
 lines-step b (c ∷ bs) = lines-by (eqb b 10) b (c ∷ bs) (ap (onto b) (lines-step c bs))
 
 -- the word with number k in bytes that begin at `at`
-abbrev pub found : ℕ → ℕ → List ℕ → Option Word
-found zero at bs = Some (record { text = take (reach 32 bs) bs; place = at })
-found (suc k) at [] = None
-found (suc k) at (b ∷ bs) = found (cond (eqb b 32) k (suc k)) (at + 1) bs
+abbrev pub nth-from : ℕ → ℕ → List ℕ → Option Word
+nth-from zero at bs = Some (record { text = take (reach 32 bs) bs; place = at })
+nth-from (suc k) at [] = None
+nth-from (suc k) at (b ∷ bs) = nth-from (cond (eqb b 32) k (suc k)) (at + 1) bs
 
 -- the first piece reaches to the first space
 first-piece : (bs : List ℕ) → (ps : List (List ℕ)) × (cut bs ≡ take (reach 32 bs) bs ∷ ps)
@@ -86,39 +86,33 @@ place-more : (k at : ℕ) (b : ℕ) (ps : List (List ℕ)) → word-no (placed a
 place-more k at b [] = refl
 place-more k at b (p ∷ ps) = let e : at + suc (length p) + 1 ≡ at + 1 + length p + 1 = omega arith in ap (λ m. word-no (placed m ps) k) e
 
-pub found-is : (k at : ℕ) (bs : List ℕ) → found k at bs ≡ word-no (placed at (cut bs)) k
-found-is zero at bs = sym (ap (λ ps. word-no (placed at ps) 0) (first-piece bs .1))
-found-is (suc k) at [] = refl
-found-is (suc k) at (b ∷ bs) =
-    elim (eqb b 32) as (λ v. found (cond v k (suc k)) (at + 1) bs ≡ word-no (placed at (parted v b (cut bs))) (suc k)) [
-      | true ↦ found-is k (at + 1) bs ∙ (let e : at + 1 ≡ at + 0 + 1 = omega arith in ap (λ m. word-no (placed m (cut bs)) k) e)
-      | false ↦ found-is (suc k) (at + 1) bs ∙ sym (place-more k at b (cut bs))
+pub nth-is : (k at : ℕ) (bs : List ℕ) → nth-from k at bs ≡ word-no (placed at (cut bs)) k
+nth-is zero at bs = sym (ap (λ ps. word-no (placed at ps) 0) (first-piece bs .1))
+nth-is (suc k) at [] = refl
+nth-is (suc k) at (b ∷ bs) =
+    elim (eqb b 32) as (λ v. nth-from (cond v k (suc k)) (at + 1) bs ≡ word-no (placed at (parted v b (cut bs))) (suc k)) [
+      | true ↦ nth-is k (at + 1) bs ∙ (let e : at + 1 ≡ at + 0 + 1 = omega arith in ap (λ m. word-no (placed m (cut bs)) k) e)
+      | false ↦ nth-is (suc k) (at + 1) bs ∙ sym (place-more k at b (cut bs))
     ]
 
-pub found-more : (k at : ℕ) (bs : List ℕ) (i : ℕ) → i < length bs → found (suc k) at (drop i bs) ≡ found (cond (eqb (getD bs i 0) 32) k (suc k)) (at + 1) (drop (i + 1) bs)
-found-more k at bs i h = ap (found (suc k) at) (drop-more bs i 0 h)
+pub nth-missing : (left at : ℕ) (bs : List ℕ) (i : ℕ) → 0 < left → length bs ≤ i → nth-from left at (drop i bs) ≡ None
+nth-missing zero at bs i some h = absurd (omega arith)
+nth-missing (suc k) at bs i some h = ap (nth-from (suc k) at) (drop-all i bs h)
 
-pub found-past : (k at : ℕ) (bs : List ℕ) (i : ℕ) → length bs ≤ i → found (suc k) at (drop i bs) ≡ None
-found-past k at bs i h = ap (found (suc k) at) (drop-all i bs h)
+pub nth-here : (left at : ℕ) (bs : List ℕ) → left ≤ 0 → nth-from left at bs ≡ Some (record { text = take (reach 32 bs) bs; place = at })
+nth-here zero at bs h = refl
+nth-here (suc k) at bs h = absurd (omega arith)
 
-pub found-missing : (left at : ℕ) (bs : List ℕ) (i : ℕ) → 0 < left → length bs ≤ i → found left at (drop i bs) ≡ None
-found-missing zero at bs i some h = absurd (omega arith)
-found-missing (suc k) at bs i some h = ap (found (suc k) at) (drop-all i bs h)
-
-pub found-here : (left at : ℕ) (bs : List ℕ) → left ≤ 0 → found left at bs ≡ Some (record { text = take (reach 32 bs) bs; place = at })
-found-here zero at bs h = refl
-found-here (suc k) at bs h = absurd (omega arith)
-
-pub found-space : (left at : ℕ) (bs : List ℕ) (i : ℕ) → 0 < left → i < length bs → getD bs i 0 ≡ 32 → found left at (drop i bs) ≡ found (left - 1) (at + 1) (drop (i + 1) bs)
-found-space zero at bs i some h e = absurd (omega arith)
-found-space (suc k) at bs i some h e =
+pub nth-space : (left at : ℕ) (bs : List ℕ) (i : ℕ) → 0 < left → i < length bs → getD bs i 0 ≡ 32 → nth-from left at (drop i bs) ≡ nth-from (left - 1) (at + 1) (drop (i + 1) bs)
+nth-space zero at bs i some h e = absurd (omega arith)
+nth-space (suc k) at bs i some h e =
     let m : k ≡ suc k - 1 = omega arith in
-    ap (found (suc k) at) (drop-more bs i 0 h) ∙ ap (λ v. found (cond v k (suc k)) (at + 1) (drop (i + 1) bs)) (eq-eqb _ _ e) ∙ ap (λ n. found n (at + 1) (drop (i + 1) bs)) m
+    ap (nth-from (suc k) at) (drop-more bs i 0 h) ∙ ap (λ v. nth-from (cond v k (suc k)) (at + 1) (drop (i + 1) bs)) (eq-eqb _ _ e) ∙ ap (λ n. nth-from n (at + 1) (drop (i + 1) bs)) m
 
-pub found-other : (left at : ℕ) (bs : List ℕ) (i : ℕ) → 0 < left → i < length bs → (getD bs i 0 ≡ 32 → ⊥) → found left at (drop i bs) ≡ found left (at + 1) (drop (i + 1) bs)
-found-other zero at bs i some h ne = absurd (omega arith)
-found-other (suc k) at bs i some h ne =
-    ap (found (suc k) at) (drop-more bs i 0 h) ∙ ap (λ v. found (cond v k (suc k)) (at + 1) (drop (i + 1) bs)) (ne-eqb _ _ ne)
+pub nth-other : (left at : ℕ) (bs : List ℕ) (i : ℕ) → 0 < left → i < length bs → (getD bs i 0 ≡ 32 → ⊥) → nth-from left at (drop i bs) ≡ nth-from left (at + 1) (drop (i + 1) bs)
+nth-other zero at bs i some h ne = absurd (omega arith)
+nth-other (suc k) at bs i some h ne =
+    ap (nth-from (suc k) at) (drop-more bs i 0 h) ∙ ap (λ v. nth-from (cond v k (suc k)) (at + 1) (drop (i + 1) bs)) (ne-eqb _ _ ne)
 
 pub further-open : (inside : Bool) (bs : List ℕ) (i : ℕ) → i < length bs → inside ≡ true → further inside (drop i bs) ≡ further (not (eqb (getD bs i 0) 10)) (drop (i + 1) bs)
 further-open inside bs i h e = further-more inside bs i h ∙ ap (λ v. cond v 0 1 + further (not (eqb (getD bs i 0) 10)) (drop (i + 1) bs)) e ∙ zero-add _

@@ -37,21 +37,6 @@ onward-more n bs i h low high fits = onward-by true n bs i h (and-from _ _ (and-
 pub onward-end : (n : ℕ) (bs : List ℕ) (i : ℕ) → length bs ≤ i → onward n (drop i bs) ≡ Some n
 onward-end n bs i h = ap (onward n) (drop-all i bs h)
 
-neither : (v : Bool) → _≡_ {A = Option ℕ} (cond v None None) None
-neither true = refl
-neither false = refl
-
-pub natural-none : (bs : List ℕ) → onward 0 bs ≡ None → natural-of bs ≡ None
-natural-none bs e = ap (λ o. cond (no-leading-zero bs) o None) e ∙ neither (no-leading-zero bs)
-
-starts-well : (bs : List ℕ) → 0 < length bs → (getD bs 0 0 ≡ 48 → length bs ≤ 1) → no-leading-zero bs ≡ true
-starts-well [] some h = absurd (omega arith)
-starts-well (c ∷ []) some h = refl
-starts-well (c ∷ d ∷ cs) some h = not-from-false _ (ne-eqb c 48 (λ e. let l : length (c ∷ d ∷ cs) ≤ 1 = h e in omega arith))
-
-pub natural-some : (bs : List ℕ) (n : ℕ) → 0 < length bs → (getD bs 0 0 ≡ 48 → length bs ≤ 1) → onward 0 bs ≡ Some n → natural-of bs ≡ Some n
-natural-some bs n some h e = ap (λ v. cond v (onward 0 bs) None) (starts-well bs some h) ∙ e
-
 pub integer-minus : (bs : List ℕ) → 0 < length bs → getD bs 0 0 ≡ 45 → integer-of bs ≡ minus (natural-of (between 1 (length bs) bs))
 integer-minus bs some e =
     ap integer-of (first-rest bs 0 some) ∙ ap (λ v. cond v (minus (natural-of (between 1 (length bs) bs))) (plus (natural-of (getD bs 0 0 ∷ between 1 (length bs) bs)))) (eq-eqb _ _ e)

@@ -25,11 +25,11 @@ lines [] = []
 lines (b ∷ bs) = parted (eqb b 10) b (lines bs)
 
 -- the number of lines of a script of at most 32,768 bytes and 512 lines, none of a larger one
-abbrev pub within : List ℕ → Option ℕ
-within script = cond (leb (length script) 32768 && leb (length (lines script)) 512) (Some (length (lines script))) None
+abbrev pub lines-within : List ℕ → Option ℕ
+lines-within script = cond (leb (length script) 32768 && leb (length (lines script)) 512) (Some (length (lines script))) None
 
 -- l is the first line of what stands in the script from start on, and behind it the other lines follow
-pub record Begins (script : List ℕ) (start : ℕ) (l : Line) : Type 0 where
+pub record BeginsLine (script : List ℕ) (start : ℕ) (l : Line) : Type 0 where
   pub inside : start < length script
   pub first : lines (drop start script) ≡ (l .text .now) ∷ lines (drop (l .next) script)
   pub next : l .next ≡ min (start + length (l .text .now) + 1) (length script)
@@ -37,7 +37,7 @@ pub record Begins (script : List ℕ) (start : ℕ) (l : Line) : Type 0 where
 -- a line begins at start if the script goes on there
 abbrev pub LineAt : List ℕ → ℕ → Option Line → Type 0
 LineAt script start None = length script ≤ start
-LineAt script start (Some l) = Begins script start l
+LineAt script start (Some l) = BeginsLine script start l
 
 -- how many bytes stand before the first byte that equals stop
 abbrev pub reach : ℕ → List ℕ → ℕ

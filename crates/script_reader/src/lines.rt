@@ -2,7 +2,7 @@
 ghost use mathlib.Core.Path.{_≡_};
 ghost use Prim.Native.Nat.{_<_};
 ghost use lib.ListN.{length};
-ghost use Rattle.script_reader.specs.Lines.{lines, within, Begins, LineAt};
+ghost use Rattle.script_reader.specs.Lines.{lines, lines-within, BeginsLine, LineAt};
 use crate::pieces::piece_end;
 
 pub const MOST_BYTES: usize = 32_768;
@@ -35,7 +35,7 @@ fn line_count(script: &[u8]) -> usize
 
 // How many lines a script has, or none if it is too long to be played.
 pub fn lines_within(script: &[u8]) -> Option<usize>
-    ensures { λ r. ⌜ r ≡ within (now (script .entry)) ⌝ }
+    ensures { λ r. ⌜ r ≡ lines-within (now (script .entry)) ⌝ }
 {
     if script.len() > MOST_BYTES {
         return None;
@@ -50,7 +50,7 @@ pub fn lines_within(script: &[u8]) -> Option<usize>
 
 fn first_line<'a>(script: &'a [u8], start: usize) -> Line<'a>
     requires { ⌜ start < length (now script) ⌝ }
-    ensures { λ r. ⌜ Begins (now (script .entry)) start r ⌝ }
+    ensures { λ r. ⌜ BeginsLine (now (script .entry)) start r ⌝ }
 {
     let end = piece_end(script, start, NEWLINE);
     let text = &script[start..end];

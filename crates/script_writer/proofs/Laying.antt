@@ -11,9 +11,9 @@ use borrow.Rule.Slice.PartMut.{putMid}
 use Rattle.std.proofs.shelf.Parts.{putMid-paste}
 use Rattle.std.proofs.shelf.Lists.{take-all, take-at, drop-at, drop-drop, take-set-le, drop-set, length-push, length-take-le}
 use Rattle.std.proofs.shelf.Decimals.{decimal-by-steps}
-use Rattle.calls.specs.Numbers.{digits}
+use Rattle.calls.specs.Numbers.{digits-of}
 use Rattle.calls.proofs.Digits.{digits-decimal}
-use Rattle.script_writer.specs.Writer.{laid, Put}
+use Rattle.script_writer.specs.Writer.{laid, Puts}
 
 pub length-laid : (b : List ℕ) (at : ℕ) (xs : List ℕ) → at + length xs ≤ length b → length (laid b at xs) ≡ length b
 length-laid b at xs h =
@@ -39,7 +39,7 @@ laid-more b at xs ys h =
     ∙ append-assoc (take at b) xs (ys ++ drop (at + length (xs ++ ys)) b)
     ∙ ap (λ l. take at b ++ l) (sym (append-assoc xs ys (drop (at + length (xs ++ ys)) b)))
 
-pub put-then : {b b1 b2 : List ℕ} {at at1 at2 : ℕ} {xs ys : List ℕ} → Put b at xs b1 at1 → Put b1 at1 ys b2 at2 → Put b at (xs ++ ys) b2 at2
+pub put-then : {b b1 b2 : List ℕ} {at at1 at2 : ℕ} {xs ys : List ℕ} → Puts b at xs b1 at1 → Puts b1 at1 ys b2 at2 → Puts b at (xs ++ ys) b2 at2
 put-then {b = b} {b1 = b1} {b2 = b2} {at = at} {at1 = at1} {at2 = at2} {xs = xs} {ys = ys} p q =
     let l : length b1 ≡ length b = ap length (p .bytes-at) ∙ length-laid b at xs (p .fits) in
     record {
@@ -67,7 +67,7 @@ pub length-spell : (k n : ℕ) → length (spell k n) ≡ k
 length-spell zero n = refl
 length-spell (suc k) n = length-push (spell k (n / 10)) (48 + n % 10) ∙ (let h = length-spell k (n / 10) in omega arith)
 
-pub spell-digits : (n : ℕ) → n < 2 ^ 64 → spell (length (digits n)) n ≡ digits n
+pub spell-digits : (n : ℕ) → n < 2 ^ 64 → spell (length (digits-of n)) n ≡ digits-of n
 spell-digits n h = ap (λ l. spell (length l) n) (digits-decimal n h) ∙ decimal-by-steps (λ m ds. spell (length ds) m ≡ ds) one more n h ∙ sym (digits-decimal n h)
   where
     one : (m : ℕ) → m < 10 → spell 1 m ≡ (48 + m) ∷ []

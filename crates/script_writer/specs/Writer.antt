@@ -15,7 +15,7 @@ use Rattle.calls.specs.declared.faults.Layer.{Layer}
 use Rattle.calls.specs.declared.faults.Layer.the-variants.{Reader}
 use Rattle.calls.specs.declared.faults.PlayerFault.{PlayerFault}
 use Rattle.calls.specs.Answers.{refusal-number}
-use Rattle.calls.specs.Numbers.{digits}
+use Rattle.calls.specs.Numbers.{digits-of}
 
 abbrev pub freed-word : Freed → List ℕ
 freed-word Idle = codes "idle"
@@ -27,7 +27,7 @@ layer-word Reader = codes "reader"
 
 -- yes is 1, and no is 0
 abbrev pub flag : Bool → List ℕ
-flag b = digits (cond b 1 0)
+flag b = digits-of (cond b 1 0)
 
 -- a space before each part, and byte 10 behind the last
 abbrev pub spaced : List (List ℕ) → List ℕ
@@ -35,29 +35,29 @@ spaced [] = 10 ∷ []
 spaced (p ∷ ps) = 32 ∷ (p ++ spaced ps)
 
 -- 0, or the number of the refusal
-abbrev pub code : Answer → ℕ
-code (Refused r) = refusal-number r
-code Done = 0
-code (Value n) = 0
-code (Same b) = 0
-code (Tally u) = 0
-code (Step s) = 0
+abbrev pub code-of : Answer → ℕ
+code-of (Refused r) = refusal-number r
+code-of Done = 0
+code-of (Value n) = 0
+code-of (Same b) = 0
+code-of (Tally u) = 0
+code-of (Step s) = 0
 
 abbrev pub parts : Answer → List (List ℕ)
 parts (Refused r) = []
 parts Done = []
-parts (Value n) = digits n ∷ []
+parts (Value n) = digits-of n ∷ []
 parts (Same b) = flag b ∷ []
-parts (Tally u) = digits (u .words) ∷ digits (u .cars) ∷ digits (u .trains) ∷ flag (u .mark) ∷ []
+parts (Tally u) = digits-of (u .words) ∷ digits-of (u .cars) ∷ digits-of (u .trains) ∷ flag (u .mark) ∷ []
 parts (Step s) =
-    freed-word (s .kind) ∷ digits (s .out) ∷ digits (s .back) ∷ digits (s .copied) ∷ digits (s .lost) ∷ digits (s .looked) ∷ digits (s .cars) ∷ []
+    freed-word (s .kind) ∷ digits-of (s .out) ∷ digits-of (s .back) ∷ digits-of (s .copied) ∷ digits-of (s .lost) ∷ digits-of (s .looked) ∷ digits-of (s .cars) ∷ []
 
 abbrev pub answer-line : Answer → List ℕ
-answer-line a = digits (code a) ++ spaced (parts a)
+answer-line a = digits-of (code-of a) ++ spaced (parts a)
 
 -- as in `reader 9 line 4 at 8`
 abbrev pub fault-line : PlayerFault → List ℕ
-fault-line f = layer-word (f .layer) ++ spaced (digits (f .number) ∷ codes "line" ∷ digits (f .line) ∷ codes "at" ∷ digits (f .place) ∷ [])
+fault-line f = layer-word (f .layer) ++ spaced (digits-of (f .number) ∷ codes "line" ∷ digits-of (f .line) ∷ codes "at" ∷ digits-of (f .place) ∷ [])
 
 -- the buffer with these bytes from `at` on, and all its other bytes as they were
 abbrev pub laid : List ℕ → ℕ → List ℕ → List ℕ
@@ -71,12 +71,12 @@ pub record Line-at (before : List ℕ) (at : ℕ) (line after : List ℕ) (next 
   pub short : length line ≤ 64
 
 -- a line is written where 64 bytes stand behind `at`; elsewhere the buffer stays as it was
-abbrev pub Written : List ℕ → ℕ → List ℕ → List ℕ → Option ℕ → Type 0
-Written before at line after None = (length before < at + 64) × (after ≡ before)
-Written before at line after (Some next) = Line-at before at line after next
+abbrev pub WritesLine : List ℕ → ℕ → List ℕ → List ℕ → Option ℕ → Type 0
+WritesLine before at line after None = (length before < at + 64) × (after ≡ before)
+WritesLine before at line after (Some next) = Line-at before at line after next
 
 -- some bytes are written, and next is the place behind them
-pub record Put (before : List ℕ) (at : ℕ) (bytes after : List ℕ) (next : ℕ) : Type 0 where
+pub record Puts (before : List ℕ) (at : ℕ) (bytes after : List ℕ) (next : ℕ) : Type 0 where
   pub fits : at + length bytes ≤ length before
   pub bytes-at : after ≡ laid before at bytes
   pub behind : next ≡ at + length bytes

@@ -3,8 +3,8 @@ ghost use mathlib.Core.Path.{_≡_};
 ghost use mathlib.Core.List.{[], _∷_, _++_};
 ghost use Prim.Native.Nat.{_+_, _≤_};
 ghost use lib.ListN.{length};
-ghost use Rattle.calls.specs.Numbers.{digits};
-ghost use Rattle.script_writer.specs.Writer.{freed-word, layer-word, flag, spaced, answer-line, fault-line, Line-at, Put, Written};
+ghost use Rattle.calls.specs.Numbers.{digits-of};
+ghost use Rattle.script_writer.specs.Writer.{freed-word, layer-word, flag, spaced, answer-line, fault-line, Line-at, Puts, WritesLine};
 ghost use Rattle.calls.specs.declared.answer.Answer.the-variants.{Value, Same, Tally, Step};
 use calls::Answer;
 use calls::Freed;
@@ -17,7 +17,7 @@ pub const LINE_ROOM: usize = 64;
 
 fn put(out: &mut [u8], at: usize, text: &[u8]) -> usize
     requires { ⌜ at + length (now text) ≤ length (now out) ⌝ }
-    ensures { λ r. ⌜ Put (now (out .entry)) at (now (text .entry)) (now (out .exit)) r ⌝ }
+    ensures { λ r. ⌜ Puts (now (out .entry)) at (now (text .entry)) (now (out .exit)) r ⌝ }
 {
     let end = at + text.len();
     out[at..end].copy_from_slice(text);
@@ -26,7 +26,7 @@ fn put(out: &mut [u8], at: usize, text: &[u8]) -> usize
 
 // How many digits a number has.
 fn width(n: u64) -> usize
-    ensures { λ r. ⌜ r ≡ length (digits n) ⌝ }
+    ensures { λ r. ⌜ r ≡ length (digits-of n) ⌝ }
 {
     let mut count = 1;
     let mut rest = n;
@@ -40,7 +40,7 @@ fn width(n: u64) -> usize
 // Writes the digits from the last to the first.
 fn put_number(out: &mut [u8], at: usize, n: u64) -> usize
     requires { ⌜ at + 20 ≤ length (now out) ⌝ }
-    ensures { λ r. ⌜ Put (now (out .entry)) at (digits n) (now (out .exit)) r ⌝ }
+    ensures { λ r. ⌜ Puts (now (out .entry)) at (digits-of n) (now (out .exit)) r ⌝ }
 {
     let end = at + width(n);
     let mut place = end;
@@ -55,7 +55,7 @@ fn put_number(out: &mut [u8], at: usize, n: u64) -> usize
 
 fn put_code(out: &mut [u8], at: usize, code: u8) -> usize
     requires { ⌜ at + 20 ≤ length (now out) ⌝ }
-    ensures put { λ r. ⌜ Put (now (out .entry)) at (digits code) (now (out .exit)) r ⌝ }
+    ensures put { λ r. ⌜ Puts (now (out .entry)) at (digits-of code) (now (out .exit)) r ⌝ }
     ensures short { λ r. ⌜ r ≤ at + 3 ⌝ }
 {
     put_number(out, at, code as u64)
@@ -63,7 +63,7 @@ fn put_code(out: &mut [u8], at: usize, code: u8) -> usize
 
 fn part_u8(out: &mut [u8], at: usize, n: u8) -> usize
     requires { ⌜ at + 21 ≤ length (now out) ⌝ }
-    ensures put { λ r. ⌜ Put (now (out .entry)) at (32 ∷ digits n) (now (out .exit)) r ⌝ }
+    ensures put { λ r. ⌜ Puts (now (out .entry)) at (32 ∷ digits-of n) (now (out .exit)) r ⌝ }
     ensures short { λ r. ⌜ r ≤ at + 4 ⌝ }
 {
     let behind = put(out, at, b" ");
@@ -72,7 +72,7 @@ fn part_u8(out: &mut [u8], at: usize, n: u8) -> usize
 
 fn part_u16(out: &mut [u8], at: usize, n: u16) -> usize
     requires { ⌜ at + 21 ≤ length (now out) ⌝ }
-    ensures put { λ r. ⌜ Put (now (out .entry)) at (32 ∷ digits n) (now (out .exit)) r ⌝ }
+    ensures put { λ r. ⌜ Puts (now (out .entry)) at (32 ∷ digits-of n) (now (out .exit)) r ⌝ }
     ensures short { λ r. ⌜ r ≤ at + 6 ⌝ }
 {
     let behind = put(out, at, b" ");
@@ -81,7 +81,7 @@ fn part_u16(out: &mut [u8], at: usize, n: u16) -> usize
 
 fn part_u32(out: &mut [u8], at: usize, n: u32) -> usize
     requires { ⌜ at + 21 ≤ length (now out) ⌝ }
-    ensures put { λ r. ⌜ Put (now (out .entry)) at (32 ∷ digits n) (now (out .exit)) r ⌝ }
+    ensures put { λ r. ⌜ Puts (now (out .entry)) at (32 ∷ digits-of n) (now (out .exit)) r ⌝ }
     ensures short { λ r. ⌜ r ≤ at + 11 ⌝ }
 {
     let behind = put(out, at, b" ");
@@ -90,7 +90,7 @@ fn part_u32(out: &mut [u8], at: usize, n: u32) -> usize
 
 fn part_usize(out: &mut [u8], at: usize, n: usize) -> usize
     requires { ⌜ at + 21 ≤ length (now out) ⌝ }
-    ensures put { λ r. ⌜ Put (now (out .entry)) at (32 ∷ digits n) (now (out .exit)) r ⌝ }
+    ensures put { λ r. ⌜ Puts (now (out .entry)) at (32 ∷ digits-of n) (now (out .exit)) r ⌝ }
     ensures short { λ r. ⌜ r ≤ at + 21 ⌝ }
 {
     let behind = put(out, at, b" ");
@@ -99,7 +99,7 @@ fn part_usize(out: &mut [u8], at: usize, n: usize) -> usize
 
 fn part_flag(out: &mut [u8], at: usize, yes: bool) -> usize
     requires { ⌜ at + 21 ≤ length (now out) ⌝ }
-    ensures put { λ r. ⌜ Put (now (out .entry)) at (32 ∷ flag yes) (now (out .exit)) r ⌝ }
+    ensures put { λ r. ⌜ Puts (now (out .entry)) at (32 ∷ flag yes) (now (out .exit)) r ⌝ }
     ensures short { λ r. ⌜ r ≤ at + 4 ⌝ }
 {
     let digit = if yes { 1 } else { 0 };
@@ -108,7 +108,7 @@ fn part_flag(out: &mut [u8], at: usize, yes: bool) -> usize
 
 fn part_freed(out: &mut [u8], at: usize, kind: Freed) -> usize
     requires { ⌜ at + 6 ≤ length (now out) ⌝ }
-    ensures put { λ r. ⌜ Put (now (out .entry)) at (32 ∷ freed-word kind) (now (out .exit)) r ⌝ }
+    ensures put { λ r. ⌜ Puts (now (out .entry)) at (32 ∷ freed-word kind) (now (out .exit)) r ⌝ }
     ensures short { λ r. ⌜ r ≤ at + 6 ⌝ }
 {
     match kind {
@@ -147,7 +147,7 @@ fn put_step(out: &mut [u8], at: usize, report: Report) -> usize
 
 fn put_plain(out: &mut [u8], at: usize, code: u8) -> usize
     requires { ⌜ at + 64 ≤ length (now out) ⌝ }
-    ensures { λ r. ⌜ Line-at (now (out .entry)) at (digits code ++ spaced []) (now (out .exit)) r ⌝ }
+    ensures { λ r. ⌜ Line-at (now (out .entry)) at (digits-of code ++ spaced []) (now (out .exit)) r ⌝ }
 {
     let code = put_code(out, at, code);
     put(out, code, b"\n")
@@ -187,7 +187,7 @@ fn put_answer(out: &mut [u8], at: usize, answer: Answer) -> usize
 
 // Writes an answer's line at `at` and gives the place behind it, or none where fewer than 64 bytes stand there.
 pub fn write_answer(out: &mut [u8], at: usize, answer: &Answer) -> Option<usize>
-    ensures { λ r. ⌜ Written (now (out .entry)) at (answer-line (now (answer .entry))) (now (out .exit)) r ⌝ }
+    ensures { λ r. ⌜ WritesLine (now (out .entry)) at (answer-line (now (answer .entry))) (now (out .exit)) r ⌝ }
 {
     if at > out.len() || out.len() - at < LINE_ROOM {
         return None;
@@ -197,7 +197,7 @@ pub fn write_answer(out: &mut [u8], at: usize, answer: &Answer) -> Option<usize>
 
 fn put_layer(out: &mut [u8], at: usize, layer: Layer) -> usize
     requires { ⌜ at + 6 ≤ length (now out) ⌝ }
-    ensures put { λ r. ⌜ Put (now (out .entry)) at (layer-word layer) (now (out .exit)) r ⌝ }
+    ensures put { λ r. ⌜ Puts (now (out .entry)) at (layer-word layer) (now (out .exit)) r ⌝ }
     ensures short { λ r. ⌜ r ≤ at + 6 ⌝ }
 {
     match layer {
@@ -220,7 +220,7 @@ fn put_fault(out: &mut [u8], at: usize, fault: PlayerFault) -> usize
 
 // Writes a fault's line in the same way.
 pub fn write_fault(out: &mut [u8], at: usize, fault: &PlayerFault) -> Option<usize>
-    ensures { λ r. ⌜ Written (now (out .entry)) at (fault-line (now (fault .entry))) (now (out .exit)) r ⌝ }
+    ensures { λ r. ⌜ WritesLine (now (out .entry)) at (fault-line (now (fault .entry))) (now (out .exit)) r ⌝ }
 {
     if at > out.len() || out.len() - at < LINE_ROOM {
         return None;

@@ -1,8 +1,4 @@
-use mathlib.Core.Path.{_≡_, sym, _∙_}
-use Prim.Native.Nat.{_<_, _≤_}
-use native.Mathlib.Omega.{arith}
-use borrow.Author.Needs.{needs}
-use lib.ListN.{length, getD}
+use mathlib.Core.Path.{sym, _∙_}
 use Rattle.script_reader.proofs.Numerals.{onward-low, onward-high, onward-large, onward-more, onward-end}
 use Rattle.script_reader.proofs.numbers.digits_value.Needs as need
 use Rattle.script_reader.proofs.numbers.digits_value.Needs.{then-byte-lt48·by·then-byte-lt48, then-byte-lt48·by·else-byte-lt48·then-byte-gt57}

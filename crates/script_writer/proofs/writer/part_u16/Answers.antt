@@ -2,7 +2,7 @@ use Prim.Native.Nat.{_<_, _≤_, _^_}
 use native.Mathlib.Omega.{arith}
 use borrow.Author.Needs.{needs}
 use lib.ListN.{length}
-use Rattle.calls.specs.Numbers.{digits}
+use Rattle.calls.specs.Numbers.{digits-of}
 use Rattle.calls.proofs.Digits.{length-digits-le}
 use Rattle.script_writer.proofs.Laying.{put-then}
 use Rattle.script_writer.proofs.writer.part_u16.Needs as need
@@ -10,7 +10,7 @@ use Rattle.script_writer.proofs.writer.part_u16.Needs as need
 pub returns : need.returns
 returns c =
     let f : c .args .n < 2 ^ 16 = search needs in
-    let l : length (digits (c .args .n)) ≤ 5 = length-digits-le 5 (c .args .n) (omega arith) (omega arith) (omega arith) in
+    let l : length (digits-of (c .args .n)) ≤ 5 = length-digits-le 5 (c .args .n) (omega arith) (omega arith) (omega arith) in
     record {
       put = put-then (c .put-behind .ensures) (c .put-number .ensures);
       short = omega (arith, c .put-behind .ensures .behind, c .put-number .ensures .behind);

@@ -3,7 +3,7 @@ use Prim.Native.Nat.{_+_, _-_, _<_, _≤_, _^_}
 use native.Mathlib.Omega.{arith}
 use borrow.Author.Needs.{needs}
 use lib.ListN.{length}
-use Rattle.calls.specs.Numbers.{digits}
+use Rattle.calls.specs.Numbers.{digits-of}
 use Rattle.script_writer.specs.Writer.{laid}
 use Rattle.calls.proofs.Digits.{length-digits-le}
 use Rattle.script_writer.proofs.Laying.{spell, spell-digits, fill-step, fill-end}
@@ -33,10 +33,10 @@ pub returns : need.returns
 returns c =
     let f : c .args .n < 2 ^ 64 = search needs in
     let w = c .width .ensures in
-    let l : length (digits (c .args .n)) ≤ 20 = length-digits-le 20 (c .args .n) (omega arith) (omega arith) f in
+    let l : length (digits-of (c .args .n)) ≤ 20 = length-digits-le 20 (c .args .n) (omega arith) (omega arith) f in
     let b = c .args .out .now in
     let at = c .args .at in
-    let e : at + c .width .result - at ≡ length (digits (c .args .n)) = omega arith in
+    let e : at + c .width .result - at ≡ length (digits-of (c .args .n)) = omega arith in
     record {
       fits = omega (arith, c .pre);
       bytes-at =
