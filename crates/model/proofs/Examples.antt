@@ -9,9 +9,8 @@ use Rattle.layout.specs.Product.{product-meaning}
 use Rattle.layout.specs.Pair.{pair-lawful}
 use Rattle.layout.specs.Record.{record-meaning, record-coding, record-lawful, record-coded}
 use Rattle.layout.specs.Array.{array-meaning, array-coding, array-lawful}
-use Rattle.remembered.specs.Slots.{slot-has, slot-run}
-use Rattle.remembered.specs.Cards.{card-has, card-run}
-use Rattle.remembered.specs.Pairs.{within, without}
+use Rattle.remembered.specs.Slots.{slot-has}
+use Rattle.remembered.specs.Cards.{card-has}
 use Rattle.layout.specs.Meaning.{Lawful}
 use Rattle.model.specs.Calls.{make, Answer, refused, full}
 use Rattle.model.specs.Bodies.{fresh, size, is-root}
@@ -27,7 +26,7 @@ filled : Model
 filled = behind slot-has (repeated 48 (make 0 1 63 0)) opening
 
 filled-words : words-in-use (filled .trains) ≡ 3072
-unfolding filled slot-run
+unfolding filled
 filled-words = refl
 
 by-tests : (a b c : Bool) (k x y r : ℕ) (m : Model) → a ≡ true → b ≡ true → c ≡ false → space-make a b c (fresh product-meaning k x y) r m .answer ≡ refused full
@@ -42,7 +41,7 @@ no-room r k a b p q =
     (lt-leb (words-in-use (filled .trains) + size (fresh product-meaning k a b)) capacity (omega (arith, filled-words, fresh-sized product-meaning product-lawful k a b q .0)))
 
 pub examples : Worked-examples
-unfolding filled slot-run card-run within without
+unfolding filled
 examples = record {
   cycle-across-two-trains = refl;
   cycle-with-cards = refl;

@@ -22,7 +22,6 @@ use Rattle.remembered.proofs.Words.{or-none}
 
 -- held pairs in range
 pub ranged-none : Ranged []
-unfolding within
 ranged-none c a e = absurd (both-ways false refl e)
 
 pub ranged-push : (ps : List Pair) (p : Pair) → p .car < 64 → p .address < 8192 → Ranged ps → Ranged (ps ++ (p ∷ []))
@@ -46,7 +45,6 @@ or-regroup false y z = refl
 
 -- none held, and one more
 pub least-start : (H : ℕ → ℕ → Bool) (car from : ℕ) (r : Option ℕ) → Least (H car) from r → Least (with-held H [] car) from r
-unfolding within
 least-start H car from r h = least-same (H car) (with-held H [] car) from r (λ a. sym (or-none (H car a))) h
 
 pub least-more : (H : ℕ → ℕ → Bool) (l : List Pair) (i car from : ℕ) (r : Option ℕ) → i < length l → Least (λ a. with-held H (take i l) car a || is-pair (getD l i P0) car a) from r → Least (with-held H (take (i + 1) l) car) from r
@@ -57,13 +55,11 @@ least-more H l i car from r lt h =
 
 -- one pair of the list dropped or kept
 pub drop-skip : (c : ℕ) (l : List Pair) (i : ℕ) → i < length l → getD l i P0 .car ≡ c → without c (take (i + 1) l) ≡ without c (take i l)
-unfolding without
 drop-skip c l i lt e =
     ap (without c) (take-more l i P0 lt) ∙ without-append c (take i l) (getD l i P0 ∷ [])
     ∙ ap (λ b. without c (take i l) ++ unless b (getD l i P0) []) (eq-eqb (getD l i P0 .car) c e) ∙ append-nil (without c (take i l))
 
 pub drop-keep : (c : ℕ) (l f : List Pair) (i n : ℕ) → i < length l → n < length f → (getD l i P0 .car ≡ c → ⊥) → take n f ≡ without c (take i l) → take (n + 1) (set f n (getD l i P0)) ≡ without c (take (i + 1) l)
-unfolding without
 drop-keep c l f i n lt ln ne e =
     take-more-set f n (getD l i P0) ln ∙ ap (λ xs. xs ++ (getD l i P0 ∷ [])) e
     ∙ ap (λ b. without c (take i l) ++ unless b (getD l i P0) []) (sym (ne-eqb (getD l i P0 .car) c ne))
@@ -98,7 +94,7 @@ sends-keeps has N keeping [] s t e c a h = ap (λ x. has x c a) e ∙ h
 sends-keeps has N keeping (p ∷ ps) s t n c a h = sends-keeps has N keeping ps (n .0) t (n .2) c a (keeping s (n .0) (p .car) (p .address) (n .1) c a h)
 
 sends-gains : {S : Type 0} (has : S → ℕ → ℕ → Bool) (N : S → ℕ → ℕ → S → Type 0) → Keeping has N → Gaining has N → (ps : List Pair) → Ranged ps → (s t : S) → Sends N s ps t → (c a : ℕ) → within ps c a ≡ true → has t c a ≡ true
-unfolding Sends within
+unfolding Sends
 sends-gains has N keeping gaining [] near s t n c a h = absurd (both-ways false refl h)
 sends-gains has N keeping gaining (p ∷ ps) near s t n c a h =
     ⊎-elim
@@ -111,7 +107,7 @@ sends-gains has N keeping gaining (p ∷ ps) near s t n c a h =
     (or-cases (is-pair p c a) (within ps c a) h)
 
 sends-tells : {S : Type 0} (N : S → ℕ → ℕ → S → Type 0) (told : S → Row → Type 0) → Telling N told → (ps : List Pair) (s t : S) (r : Row) → Sends N s ps t → told s r → told t (sent ps r)
-unfolding Sends sent
+unfolding Sends
 sends-tells N told telling [] s t r e h = subst (λ x. told x r) (sym e) h
 sends-tells N told telling (p ∷ ps) s t r n h = sends-tells N told telling ps (n .0) t (note (p .car) (p .address) ∷ r) (n .2) (telling s (n .0) (p .car) (p .address) r (n .1) h)
 
@@ -133,7 +129,6 @@ buffer-keeps has N keeping gaining s hs c a t ks near n d b h =
     (cases-bool (new-in (with-held (has s) hs) c a))
 
 pub buffer-gains : {S : Type 0} (has : S → ℕ → ℕ → Bool) (N : S → ℕ → ℕ → S → Type 0) (s : S) (hs : List Pair) (c a : ℕ) (t : S) (ks : List Pair) → BufferNoted has N s hs c a t ks → c < 64 → a < 8192 → with-held (has t) ks c a ≡ true
-unfolding within
 buffer-gains has N s hs c a t ks n hc ha =
     ⊎-elim
     (λ e.
@@ -157,7 +152,6 @@ pub buffer-agrees : {S : Type 0} (has : S → ℕ → ℕ → Bool) (m : Meaning
 buffer-agrees has m told agrees s hs r h c a = ap (λ x. x || within hs c a) (agrees s (buffer-run m r .below) (h .told-below) c a) ∙ ap (λ x. m (buffer-run m r .below) c a || within x c a) (h .held-is)
 
 pub buffer-tells : {S : Type 0} (has : S → ℕ → ℕ → Bool) (N : S → ℕ → ℕ → S → Type 0) (m : Meaning) (told : S → Row → Type 0) → ((s : S) (r : Row) → told s r → (c a : ℕ) → has s c a ≡ m r c a) → Telling N told → (s : S) (hs : List Pair) (c a : ℕ) (t : S) (ks : List Pair) (r : Row) → BufferNoted has N s hs c a t ks → BufferTold m told s hs r → BufferTold m told t ks (note c a ∷ r)
-unfolding buffer-run
 buffer-tells has N m told agrees telling s hs c a t ks r n h =
     let β = buffer-run m r in
     let q = go (new-in (buffer-in m β) c a) (ltb (length (β .held)) 16) (ap (λ x. in-range c a && not x) (buffer-agrees has m told agrees s hs r h c a)) (ap (λ x. ltb (length x) 16) (h .held-is)) in
@@ -173,24 +167,20 @@ buffer-tells has N m told agrees telling s hs c a t ks r n h =
         (subst (λ z. told t (sent z (buffer-run m r .below))) (h .held-is) (sends-tells N told telling hs s t (buffer-run m r .below) (n .sends-below e g) (h .told-below)), n .sends-held e g)
 
 pub buffer-forgets : {S : Type 0} (F : S → ℕ → S → Type 0) (m : Meaning) (told : S → Row → Type 0) → ((s t : S) (c : ℕ) (r : Row) → F s c t → told s r → told t (forget c ∷ r)) → (s : S) (hs : List Pair) (c : ℕ) (t : S) (ks : List Pair) (r : Row) → BufferForgot F s hs c t ks → BufferTold m told s hs r → BufferTold m told t ks (forget c ∷ r)
-unfolding buffer-run
 buffer-forgets F m told forgetting s hs c t ks r n h = record {
   told-below = forgetting s t c (buffer-run m r .below) (n .below-forgot) (h .told-below);
   held-is = n .held-dropped ∙ ap (without c) (h .held-is);
 }
 
 pub buffer-starts : {S : Type 0} (m : Meaning) (told : S → Row → Type 0) (s : S) (hs : List Pair) → hs ≡ [] → told s [] → BufferTold m told s hs []
-unfolding buffer-run
 buffer-starts m told s hs e h = record { told-below = h; held-is = e }
 
 -- the meaning of a buffer over a lawful meaning is lawful
 row-keeps : (m : Meaning) → Lawful m → (ps : List Pair) (r : Row) (c a : ℕ) → m r c a ≡ true → m (sent ps r) c a ≡ true
-unfolding sent
 row-keeps m law [] r c a h = h
 row-keeps m law (p ∷ ps) r c a h = row-keeps m law ps (note (p .car) (p .address) ∷ r) c a (law .keeps r (p .car) (p .address) c a h)
 
 row-gains : (m : Meaning) → Lawful m → (ps : List Pair) → Ranged ps → (r : Row) (c a : ℕ) → within ps c a ≡ true → m (sent ps r) c a ≡ true
-unfolding sent within
 row-gains m law [] near r c a h = absurd (both-ways false refl h)
 row-gains m law (p ∷ ps) near r c a h =
     ⊎-elim
@@ -208,7 +198,6 @@ run-add m true true c a β e h = let q = range-parts c a (and-parts (in-range c 
 run-add m true false c a β e h = let q = range-parts c a (and-parts (in-range c a) _ e .0) in ranged-push [] (pair c a) (q .0) (q .1) ranged-none
 
 run-ranged : (m : Meaning) (r : Row) → Ranged (buffer-run m r .held)
-unfolding buffer-run
 run-ranged m [] = ranged-none
 run-ranged m (note c a ∷ r) = run-add m (new-in (buffer-in m (buffer-run m r)) c a) (ltb (length (buffer-run m r .held)) 16) c a (buffer-run m r) refl (run-ranged m r)
 run-ranged m (forget c ∷ r) = ranged-without (buffer-run m r .held) c (run-ranged m r)
@@ -222,13 +211,11 @@ add-keeps m law true false c a β near d b h =
     (⊎-elim (λ x. row-keeps m law (β .held) (β .below) d b x) (λ x. row-gains m law (β .held) near (β .below) d b x) (or-cases (m (β .below) d b) (within (β .held) d b) h))
 
 add-gains : (m : Meaning) (x y : Bool) (c a : ℕ) (β : Buffer) → c < 64 → a < 8192 → new-in (buffer-in m β) c a ≡ x → buffer-in m (buffer-add x y c a β) c a ≡ true
-unfolding within
 add-gains m false y c a β hc ha e = ⊎-elim (λ o. absurd (both-ways (in-range c a) o (range-from c a hc ha))) (λ o. not-false (buffer-in m β c a) o) (and-cases (in-range c a) (not (buffer-in m β c a)) e)
 add-gains m true true c a β hc ha e = or-right (m (β .below) c a) _ (within-push (β .held) (pair c a) c a ∙ or-right (within (β .held) c a) _ (pair-from (pair c a) c a refl refl))
 add-gains m true false c a β hc ha e = or-right (m (sent (β .held) (β .below)) c a) _ (or-left (is-pair (pair c a) c a) _ (pair-from (pair c a) c a refl refl))
 
 pub buffered-lawful : (m : Meaning) → Lawful m → Lawful (buffered m)
-unfolding buffer-run within
 buffered-lawful m law = record {
   starts = λ c a. ap (λ x. x || false) (law .starts c a);
   bounded = λ r c a h. ⊎-elim (λ x. law .bounded (buffer-run m r .below) c a x) (λ x. run-ranged m r c a x) (or-cases (m (buffer-run m r .below) c a) (within (buffer-run m r .held) c a) h);

@@ -37,7 +37,6 @@ hit-parts c a d b e =
 
 -- one card more
 pub card-step : (c a : ℕ) (cs : List Pair) (d b : ℕ) → card-in (card-note c a cs) d b ≡ (card-in cs d b || hits c a d b)
-unfolding within
 card-step c a cs d b = go (in-range c a) (card-in cs c a) refl refl
   where
     go : (i m : Bool) → in-range c a ≡ i → card-in cs c a ≡ m → (in-range d b && within (unless (not (i && not m)) (pair c (a / 16)) cs) d (b / 16)) ≡ ((in-range d b && within cs d (b / 16)) || (i && (eqb d c && eqb (b / 16) (a / 16))))
@@ -60,7 +59,6 @@ pub card-unstep : (c : ℕ) (cs : List Pair) (d b : ℕ) → card-in (without c 
 card-unstep c cs d b = ap (λ x. in-range d b && x) (within-without c cs d (b / 16)) ∙ swap-and (in-range d b) (not (eqb d c)) (within cs d (b / 16))
 
 pub card-lawful : Lawful card-has
-unfolding card-run within
 card-lawful = record {
   starts = λ c a. and-none (in-range c a);
   bounded = λ r c a e. range-parts c a (and-parts (in-range c a) _ e .0);
@@ -70,11 +68,9 @@ card-lawful = record {
 }
 
 pub card-tells : (ws vs : List ℕ) (c a : ℕ) (r : List _) → CardNoted ws c a vs → CardTold ws r → CardTold vs (note c a ∷ r)
-unfolding card-run
 card-tells ws vs c a r n t d b = n .pairs d b ∙ ap (λ x. x || hits c a d b) (t d b) ∙ sym (card-step c a (card-run r) d b)
 
 pub card-forgets : (ws vs : List ℕ) (c : ℕ) (r : List _) → CardForgot ws c vs → CardTold ws r → CardTold vs (forget c ∷ r)
-unfolding card-run
 card-forgets ws vs c r n t d b = n d b ∙ ap (λ x. not (eqb d c) && x) (t d b) ∙ sym (card-unstep c (card-run r) d b)
 
 pub card-cleared : (ws vs : List ℕ) (c : ℕ) → Cleared ws vs (8 * c) 8 → CardForgot ws c vs

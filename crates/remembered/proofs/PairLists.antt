@@ -35,7 +35,6 @@ pub pair-from : (p : Pair) (c a : ℕ) → p .car ≡ c → p .address ≡ a →
 pair-from p c a e f = and-from (eqb (p .car) c) (eqb (p .address) a) (eq-eqb (p .car) c e) (eq-eqb (p .address) a f)
 
 sift : (p : Pair) (c d a : ℕ) (w w′ : Bool) (ps : List Pair) → within ps d a ≡ w′ → w′ ≡ (not (eqb d c) && w) → (b : Bool) → eqb (p .car) c ≡ b → within (unless b p ps) d a ≡ (not (eqb d c) && (is-pair p d a || w))
-unfolding within
 sift p c d a w w′ ps h more true e =
     h ∙ more
     ∙ ⊎-elim
@@ -52,12 +51,10 @@ sift p c d a w w′ ps h more false e =
 
 -- a list without a car has the pairs of the other cars
 pub within-without : (c : ℕ) (ps : List Pair) (d a : ℕ) → within (without c ps) d a ≡ (not (eqb d c) && within ps d a)
-unfolding within without
 within-without c [] d a = sym (and-none (not (eqb d c)))
 within-without c (p ∷ ps) d a = sift p c d a (within ps d a) (within (without c ps) d a) (without c ps) refl (within-without c ps d a) (eqb (p .car) c) refl
 
 number-unless : (p : Pair) (c d : ℕ) (m n : ℕ) (ps : List Pair) → number-of d ps ≡ cond (eqb d c) 0 n → (b : Bool) → eqb (p .car) c ≡ b → number-of d (unless b p ps) ≡ cond (eqb d c) 0 (cond (eqb (p .car) d) 1 0 + n)
-unfolding number-of
 number-unless p c d m n ps h true e =
     h
     ∙ ⊎-elim
@@ -79,7 +76,6 @@ number-unless p c d m n ps h false e =
 
 -- how many pairs of each car are left without one car
 pub number-without : (c : ℕ) (ps : List Pair) (d : ℕ) → number-of d (without c ps) ≡ cond (eqb d c) 0 (number-of d ps)
-unfolding number-of without
 number-without c [] d = same (eqb d c)
   where
     same : (b : Bool) → _≡_ {A = ℕ} 0 (cond b 0 0)
@@ -92,7 +88,6 @@ length-unless p ps m n h true = omega arith
 length-unless p ps m n h false = omega arith
 
 pub length-without : (c : ℕ) (ps : List Pair) → length (without c ps) + number-of c ps ≡ length ps
-unfolding number-of without
 length-without c [] = refl
 length-without c (p ∷ ps) = length-unless p (without c ps) (number-of c ps) (length ps) (length-without c ps) (eqb (p .car) c)
 
@@ -101,7 +96,6 @@ or-assoc true y z = refl
 or-assoc false y z = refl
 
 pub within-push : (ps : List Pair) (p : Pair) (c a : ℕ) → within (ps ++ (p ∷ [])) c a ≡ (within ps c a || is-pair p c a)
-unfolding within
 within-push [] p c a = or-last (is-pair p c a)
   where
     or-last : (b : Bool) → (b || false) ≡ b
@@ -114,6 +108,5 @@ unless-append true p ps qs = refl
 unless-append false p ps qs = refl
 
 pub without-append : (c : ℕ) (ps qs : List Pair) → without c (ps ++ qs) ≡ without c ps ++ without c qs
-unfolding without
 without-append c [] qs = refl
 without-append c (p ∷ ps) qs = ap (unless (eqb (p .car) c) p) (without-append c ps qs) ∙ unless-append (eqb (p .car) c) p (without c ps) (without c qs)

@@ -184,7 +184,6 @@ stay ws os u vs ps v σ e f g s = subst (λ x. SlotStands x ps v σ) (sym e) (su
 
 -- a note leads from what stands for a state to what stands for the next one
 pub slot-tells : (ws : List ℕ) (os : List Bool) (u c a : ℕ) (vs : List ℕ) (ps : List Bool) (v : ℕ) (σ : Slots) → SlotNoted ws os u c a vs ps v → SlotStands ws os u σ → SlotStands vs ps v (slot-note c a σ)
-unfolding within number-of
 slot-tells ws os u c a vs ps v σ n s = go (new-in (slot-in σ) c a) (ltb (length (σ .kept)) 2048) (ap (λ x. in-range c a && not x) (slot-agrees ws os u σ s c a)) (ap (λ x. ltb x 2048) (s .used-is))
   where
     go : (m r : Bool) → new-in (slot-pairs ws os) c a ≡ m → ltb u 2048 ≡ r → SlotStands vs ps v (slot-add m r c a σ)
@@ -226,7 +225,6 @@ slot-forgets ws os u c vs ps v σ n s = record {
 }
 
 add-keeps : (m r : Bool) (c a : ℕ) (σ : Slots) (d b : ℕ) → slot-in σ d b ≡ true → slot-in (slot-add m r c a σ) d b ≡ true
-unfolding within
 add-keeps false r c a σ d b e = e
 add-keeps true true c a σ d b e =
     let p = and-parts (in-range d b) _ e in
@@ -236,14 +234,12 @@ add-keeps true false c a σ d b e =
     and-from (in-range d b) _ (p .0) (⊎-elim (λ x. or-left (σ .over d || eqb d c) _ (or-left (σ .over d) _ x)) (λ x. or-right (σ .over d || eqb d c) _ x) (or-cases (σ .over d) _ (p .1)))
 
 add-gains : (m r : Bool) (c a : ℕ) (σ : Slots) → c < 64 → a < 8192 → new-in (slot-in σ) c a ≡ m → slot-in (slot-add m r c a σ) c a ≡ true
-unfolding within
 add-gains false r c a σ hc ha e =
     ⊎-elim (λ o. absurd (both-ways (in-range c a) o (range-from c a hc ha))) (λ o. not-false (slot-in σ c a) o) (and-cases (in-range c a) (not (slot-in σ c a)) e)
 add-gains true true c a σ hc ha e = and-from (in-range c a) _ (range-from c a hc ha) (or-right (σ .over c) _ (or-left (is-pair (pair c a) c a) _ (pair-from (pair c a) c a refl refl)))
 add-gains true false c a σ hc ha e = and-from (in-range c a) _ (range-from c a hc ha) (or-left (σ .over c || eqb c c) _ (or-right (σ .over c) (eqb c c) (eq-eqb c c refl)))
 
 pub slot-lawful : Lawful slot-has
-unfolding slot-run within
 slot-lawful = record {
   starts = λ c a. and-none (in-range c a);
   bounded = λ r c a e. range-parts c a (and-parts (in-range c a) _ e .0);
@@ -285,7 +281,6 @@ pub zero-pairs : (c a : ℕ) → slot-pairs (replicate 8192 0) (replicate 64 fal
 zero-pairs c a = pairs-split (replicate 8192 0) (replicate 64 false) c a ∙ or-from _ _ (and-right (in-range c a) _ (falses 64 c)) (zeros-kept c a)
 
 pub zero-stands : SlotStands (replicate 8192 0) (replicate 64 false) 0 (slot-run [])
-unfolding slot-run within number-of
 zero-stands = record {
   kept-is = λ c a. zeros-kept c a ∙ sym (and-none (in-range c a));
   over-is = λ c h. falses 64 c;

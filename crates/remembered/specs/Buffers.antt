@@ -20,7 +20,7 @@ abbrev pub buffer-in : Meaning → Buffer → ℕ → ℕ → Bool
 buffer-in m β c a = m (β .below) c a || within (β .held) c a
 
 -- what a set was told when the pairs of a list are noted in their order
-unfoldable pub sent : List Pair → Row → Row
+abbrev pub sent : List Pair → Row → Row
 sent [] r = r
 sent (p ∷ ps) r = sent ps (note (p .car) (p .address) ∷ r)
 
@@ -39,7 +39,7 @@ abbrev pub buffer-forget : ℕ → Buffer → Buffer
 buffer-forget c β = record { below = forget c ∷ β .below; held = without c (β .held) }
 
 -- the buffer over a set after what it was told
-unfoldable pub buffer-run : Meaning → Row → Buffer
+abbrev pub buffer-run : Meaning → Row → Buffer
 buffer-run m [] = record { below = []; held = [] }
 buffer-run m (note c a ∷ r) = buffer-note m c a (buffer-run m r)
 buffer-run m (forget c ∷ r) = buffer-forget c (buffer-run m r)

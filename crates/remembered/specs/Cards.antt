@@ -19,7 +19,7 @@ abbrev pub card-note : ℕ → ℕ → List Pair → List Pair
 card-note c a cs = unless (not (new-in (card-in cs) c a)) (pair c (a / 16)) cs
 
 -- the marked cards after what the set was told
-unfoldable pub card-run : Row → List Pair
+abbrev pub card-run : Row → List Pair
 card-run [] = []
 card-run (note c a ∷ r) = card-note c a (card-run r)
 card-run (forget c ∷ r) = without c (card-run r)

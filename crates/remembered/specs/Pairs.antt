@@ -13,7 +13,7 @@ abbrev pub is-pair : Pair → ℕ → ℕ → Bool
 is-pair p c a = eqb (p .car) c && eqb (p .address) a
 
 -- whether a pair is in a list
-unfoldable pub within : List Pair → ℕ → ℕ → Bool
+abbrev pub within : List Pair → ℕ → ℕ → Bool
 within [] c a = false
 within (p ∷ ps) c a = is-pair p c a || within ps c a
 
@@ -23,11 +23,11 @@ unless true p ps = ps
 unless false p ps = p ∷ ps
 
 -- a list without the pairs of a car, the others in their order
-unfoldable pub without : ℕ → List Pair → List Pair
+abbrev pub without : ℕ → List Pair → List Pair
 without c [] = []
 without c (p ∷ ps) = unless (eqb (p .car) c) p (without c ps)
 
 -- how many pairs of a car a list has
-unfoldable pub number-of : ℕ → List Pair → ℕ
+abbrev pub number-of : ℕ → List Pair → ℕ
 number-of c [] = 0
 number-of c (p ∷ ps) = cond (eqb (p .car) c) 1 0 + number-of c ps

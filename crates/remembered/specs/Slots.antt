@@ -35,7 +35,7 @@ abbrev pub slot-forget : ℕ → Slots → Slots
 slot-forget c σ = record { kept = without c (σ .kept); over = λ d. not (eqb d c) && σ .over d }
 
 -- the slot set after what it was told
-unfoldable pub slot-run : Row → Slots
+abbrev pub slot-run : Row → Slots
 slot-run [] = record { kept = []; over = λ d. false }
 slot-run (note c a ∷ r) = slot-note c a (slot-run r)
 slot-run (forget c ∷ r) = slot-forget c (slot-run r)

@@ -47,10 +47,10 @@ impl<S> Buffered<S> {
     }
 
     // How many pairs are held, of 16.
-    pub fn held_count(&self) -> usize
+    pub fn held_count(&self) -> u32
         ensures { λ r. ⌜ r ≡ length (take (now (self .entry) .count) (now (self .entry) .held)) ⌝ ∗ ⌜ r ≤ 16 ⌝ }
     {
-        self.count
+        self.count as u32
     }
 
     // Holds a pair more.

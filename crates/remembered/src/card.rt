@@ -19,12 +19,27 @@ pub struct CardSet {
     ghost full: { length cards ≡ 512 },
 }
 
+// No card of any car is marked.
+fn unmarked() -> [u64; 512]
+    ensures { λ r. ⌜ r ≡ replicate 512 0 ⌝ }
+{
+    [0; 512]
+}
+
 impl CardSet {
     // Whether the pair could be in the set and is not.
     fn lacks(&self, car: u32, address: u32) -> bool
         ensures { λ r. ⌜ r ≡ new-in (marked (now (self .entry) .cards)) car address ⌝ }
     {
         car < 64 && address < 8192 && !bit_at(&self.cards, 8 * car as usize, address as usize / 16)
+    }
+
+    // Unmarks all cards of a car.
+    fn unmark(&mut self, car: usize)
+        requires { ⌜ car < 64 ⌝ }
+        ensures { λ _. ⌜ CardForgot (now (self .entry) .cards) car (now (self .exit) .cards) ⌝ }
+    {
+        clear(&mut self.cards, 8 * car, 8);
     }
 }
 
@@ -40,7 +55,7 @@ pub impl RememberedSet for CardSet as CardSetRemembers {
     ghost told = { λ s r. CardTold (s .cards) r };
 
     fn empty() -> CardSet {
-        CardSet { cards: [0; 512] }
+        CardSet { cards: unmarked() }
     }
 
     fn note(&mut self, car: u32, address: u32) {
@@ -61,7 +76,7 @@ pub impl RememberedSet for CardSet as CardSetRemembers {
 
     fn forget(&mut self, car: u32) {
         if car < 64 {
-            clear(&mut self.cards, 8 * car as usize, 8);
+            self.unmark(car as usize);
         }
     }
 }

@@ -30,12 +30,26 @@ pub struct SlotSet {
     ghost room: { used ≤ 2048 },
 }
 
+// No pair is kept.
+fn no_words() -> [u64; 8192]
+    ensures { λ r. ⌜ r ≡ replicate 8192 0 ⌝ }
+{
+    [0; 8192]
+}
+
+// No car is overflown.
+fn no_flags() -> [bool; 64]
+    ensures { λ r. ⌜ r ≡ replicate 64 false ⌝ }
+{
+    [false; 64]
+}
+
 impl SlotSet {
     // How many of the 2,048 places are in use.
-    pub fn in_use(&self) -> u32
+    pub fn in_use(&self) -> usize
         ensures { λ r. ⌜ r ≡ now (self .entry) .used ⌝ ∗ ⌜ r ≡ places (now (self .entry) .words) ⌝ ∗ ⌜ r ≤ 2048 ⌝ }
     {
-        self.used
+        self.used as usize
     }
 
     // Whether a new pair of the car found the set full, and the car was not forgotten since.
@@ -93,8 +107,8 @@ pub impl RememberedSet for SlotSet as SlotSetRemembers {
 
     fn empty() -> SlotSet {
         SlotSet {
-            words: [0; 8192],
-            overflown: [false; 64],
+            words: no_words(),
+            overflown: no_flags(),
             counts: [0; 64],
             used: 0,
         }

@@ -3,8 +3,7 @@ ghost use mathlib.Core.Path.{_≡_};
 ghost use Rattle.remembered.specs.Meaning.{pairs-of};
 use crate::RememberedSet;
 
-// How many pairs of a car a set has, found by `next` alone.
-pub fn pairs<R: RememberedSet>(rset: &R, car: u32) -> u32
+fn count_by_next<R: RememberedSet>(rset: &R, car: u32) -> u32
     ensures { λ r. ⌜ r ≡ pairs-of (has (now (rset .entry))) car ⌝ }
 {
     let mut n: u32 = 0;
@@ -14,4 +13,11 @@ pub fn pairs<R: RememberedSet>(rset: &R, car: u32) -> u32
         from = address + 1;
     }
     n
+}
+
+// How many pairs of a car a set has, found by `next` alone.
+pub fn pairs<R: RememberedSet>(rset: &R, car: u32) -> u32
+    ensures { λ r. ⌜ r ≡ pairs-of (has (now (rset .entry))) car ⌝ }
+{
+    count_by_next(rset, car)
 }

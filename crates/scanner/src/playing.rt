@@ -2,12 +2,12 @@
 use crate::sets::Choice;
 use crate::space::Space;
 use crate::trouble::Trouble;
+use script::LINE_ROOM;
 use script::line_at;
 use script::lines_within;
 use script::read;
 use script::write_answer;
 use script::write_fault;
-use script::LINE_ROOM;
 use std::alloc::AllocError;
 use std::alloc::Global;
 

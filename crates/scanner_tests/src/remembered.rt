@@ -67,6 +67,23 @@ fn a_full_buffer_goes_down_to_the_cards(rt: LibcRuntime) -> Result<(), Fail> {
     check_eq(cards.count(4), 1)
 }
 
+// A pair that is held over a marked card takes a place of the buffer all the same: fifteen more fill it, and the next
+// one sends the sixteen down.
+#[test]
+fn a_covered_pair_takes_a_place(rt: LibcRuntime) -> Result<(), Fail> {
+    let mut cards = Remembered::new(rt.alloc(), Choice::BufferedCards);
+    for card in 0..16usize {
+        note(&mut cards, 3, card * 16)?;
+    }
+    note(&mut cards, 3, 1)?;
+    for card in 0..15usize {
+        note(&mut cards, 5, card * 16)?;
+    }
+    check_eq(cards.count(5), 15)?;
+    note(&mut cards, 5, 240)?;
+    check_eq(cards.count(5), 241)
+}
+
 #[test]
 fn a_full_buffer_goes_down_to_the_slots(rt: LibcRuntime) -> Result<(), Fail> {
     let mut slots = Remembered::new(rt.alloc(), Choice::BufferedSlots);

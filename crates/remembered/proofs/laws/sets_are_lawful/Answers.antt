@@ -7,6 +7,7 @@ use Rattle.remembered.proofs.laws.sets_are_lawful.Needs as need
 
 pub returns : need.returns
 returns c = record {
+  number = c .choices .ensures;
   slot = slot-lawful;
   card = card-lawful;
   buffered-slot = buffered-lawful slot-has slot-lawful;

@@ -9,7 +9,6 @@ use Rattle.remembered.proofs.buffered.Buffered.drop_held.Needs as need
 use Rattle.remembered.proofs.buffered.Buffered.drop_held.Needs.{then-p-car, else-p-car}
 
 pub loop-i-holds : need.loop-i-holds
-unfolding without
 loop-i-holds g c = (omega arith, c .args .self .now .full, refl)
 
 pub loop-i-again : need.loop-i-again

@@ -8,7 +8,6 @@ use Rattle.remembered.proofs.BufferLaws.{buffer-starts}
 use Rattle.remembered.proofs.buffered.BufferedRemembers.empty.Needs as need
 
 pub returns : need.returns
-unfolding within
 returns g c =
     let s = c .over .result in
     let H = g .S·RememberedSet .has in

@@ -18,9 +18,7 @@ pub agrees-law : need.agrees-law
 agrees-law s r h = slot-agrees (s .words) (s .overflown) (s .used) (slot-run r) h
 
 pub tells-law : need.tells-law
-unfolding slot-run
 tells-law s t c a r n h = slot-tells (s .words) (s .overflown) (s .used) c a (t .words) (t .overflown) (t .used) (slot-run r) n h
 
 pub forgets-law : need.forgets-law
-unfolding slot-run
 forgets-law s t c r n h = slot-forgets (s .words) (s .overflown) (s .used) c (t .words) (t .overflown) (t .used) (slot-run r) n h

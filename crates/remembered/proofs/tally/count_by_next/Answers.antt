@@ -2,7 +2,7 @@ use Prim.Native.Nat.{_<_, _≤_}
 use mathlib.Core.Path.{refl, sym, _∙_}
 use native.Mathlib.Omega.{arith}
 use Rattle.remembered.proofs.Counts.{count-upto, count-one}
-use Rattle.remembered.proofs.tally.pairs.Needs as need
+use Rattle.remembered.proofs.tally.count_by_next.Needs as need
 
 pub loop-address-holds : need.loop-address-holds
 loop-address-holds g c = (omega arith, omega arith, refl)

@@ -1,7 +1,7 @@
 use Prim.Native.Nat.{_≤_, _-_}
 use mathlib.Core.Path.{_≡_}
 use Rattle.remembered.specs.Meaning.{count}
-use Rattle.remembered.proofs.tally.pairs.Given as given
+use Rattle.remembered.proofs.tally.count_by_next.Given as given
 
 abbrev pub Inv-loop-address : given.InvT-loop-address
 Inv-loop-address g l = (l .from ≤ 8192) × (l .n ≤ l .from) × (l .n ≡ count (g .R·RememberedSet .has (l .rset) (l .car)) (l .from))
