@@ -110,9 +110,9 @@ Words-bounded M has =
     → (length (space-of M has h .trains) + 1) * train-steps ≤ steps more
     → (xs : List ℕ) → ((x : ℕ) → Space-reaches (space-of M has h) x → one-of x xs ≡ true)
     → let m = space-of M has h in
-      let n = space-of M has (more ++ h) in
-      let es = graph-of M (more ++ h) .entries in
-      words-in-use (n .trains) ≤ sizes es xs + sizes es (numbered (m .made) (n .made - m .made))
+    let n = space-of M has (more ++ h) in
+    let es = graph-of M (more ++ h) .entries in
+    words-in-use (n .trains) ≤ sizes es xs + sizes es (numbered (m .made) (n .made - m .made))
 
 abbrev pub words-in-use-are-of-the-reachable-and-the-new : Type 0
 words-in-use-are-of-the-reachable-and-the-new = (M : Meaning) → Lawful M → (has : Remembers) → Words-bounded M has
