@@ -15,4 +15,8 @@ pub mod WasteClean
 pub mod WasteProgress
 pub mod WasteGoing
 pub mod WasteLaws
+pub mod RememberCars
+pub mod RememberSlots
+pub mod RememberTold
+pub mod Remember
 pub mod Examples

@@ -8,4 +8,5 @@ pub mod Notes
 pub mod Space
 pub mod Reach
 pub mod Laws
+pub mod Remembered
 pub mod Examples

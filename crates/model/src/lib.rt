@@ -2,6 +2,9 @@
 // remembered set and every history. No code stands here; each function carries one law in its contract.
 ghost use Rattle.model.specs.Examples.{Worked-examples};
 ghost use Rattle.model.specs.Laws.{answers-are-the-plain-graphs, steps-never-fail, waste-near-the-front-leaves-sooner, waste-leaves-in-counted-steps, words-in-use-are-of-the-reachable-and-the-new, Laws-of};
+ghost use Rattle.model.specs.Calls.{History};
+ghost use Rattle.model.specs.Remembered.{Nothing-overlooked, no-reference-is-overlooked};
+ghost use Rattle.model.specs.Space.{space-of};
 use layout::Layout;
 use remembered::RememberedSet;
 
@@ -33,9 +36,15 @@ pub fn words_in_use_are_of_the_reachable_and_the_new()
     ensures { λ _. ⌜ words-in-use-are-of-the-reachable-and-the-new ⌝ }
 {}
 
+// At every halt a lawful set has every slot that stands in a later car than the car of the object it holds.
+pub fn no_reference_is_overlooked()
+    ensures { λ _. ⌜ no-reference-is-overlooked ⌝ }
+{}
+
 // All of these for a layout and a remembered set of the code, by what they mean.
 pub fn laws_of<L: Layout, R: RememberedSet>()
-    ensures { λ _. ⌜ Laws-of (L·Layout .meaning) (R·RememberedSet .means) ⌝ }
+    ensures uses { λ _. ⌜ Laws-of (L·Layout .meaning) (R·RememberedSet .means) ⌝ }
+    ensures remembers { λ _. ⌜ ((h : History) → Nothing-overlooked (L·Layout .meaning) (R·RememberedSet .means) (space-of (L·Layout .meaning) (R·RememberedSet .means) h)) ⌝ }
 {}
 
 // What the definitions give for the worked examples.

@@ -1,6 +1,7 @@
 use Rattle.model.proofs.Sim.{graph-law}
 use Rattle.model.proofs.Fails.{never-fail-law}
 use Rattle.model.proofs.WasteLaws.{waste-near-the-front, waste-leaves, words-of-the-reachable-and-the-new}
+use Rattle.model.proofs.Remember.{overlooked-law}
 use Rattle.model.proofs.laws_of.Needs as need
 
 pub returns : need.returns
@@ -9,9 +10,12 @@ returns g c =
     let law = g .L·Layout .lawful in
     let has = g .R·RememberedSet .means in
     record {
-      answers = graph-law M law has;
-      never-fail = never-fail-law M law has;
-      sooner = waste-near-the-front M law has;
-      counted = waste-leaves M law has;
-      words-bounded = words-of-the-reachable-and-the-new M law has;
+      uses = record {
+        answers = graph-law M law has;
+        never-fail = never-fail-law M law has;
+        sooner = waste-near-the-front M law has;
+        counted = waste-leaves M law has;
+        words-bounded = words-of-the-reachable-and-the-new M law has;
+      };
+      remembers = overlooked-law M law has (g .R·RememberedSet·met .lawful);
     }
