@@ -3,6 +3,7 @@ use Prim.Native.Nat.{ℕ}
 use Rattle.calls.specs.declared.answer.Refusal.{Refusal}
 use Rattle.calls.specs.declared.answer.Refusal.the-variants.{Root, Empty, Missing, Shape, Full, Range, Buffer}
 
+-- the number that a line shows for a refusal
 abbrev pub refusal-number : Refusal → ℕ
 refusal-number Root = 1
 refusal-number Empty = 2

@@ -26,11 +26,12 @@ no-leading-zero (c ∷ d ∷ cs) = not (eqb c 48)
 abbrev pub natural-of : List ℕ → Option ℕ
 natural-of text = cond (no-leading-zero text) (onward 0 text) None
 
+-- with no sign, 2,147,483,647 is the largest
 abbrev pub plus : Option ℕ → Option ℤ
 plus None = None
 plus (Some n) = cond (leb n 2147483647) (Some (pos n)) None
 
--- there is no -0, and -2,147,483,648 is the least
+-- with a minus sign there is no 0, and -2,147,483,648 is the least
 abbrev pub minus : Option ℕ → Option ℤ
 minus None = None
 minus (Some zero) = None
@@ -46,7 +47,7 @@ abbrev pub digits-by : ℕ → ℕ → List ℕ
 digits-by zero n = []
 digits-by (suc k) n = elim (eqb (n / 10) 0) [ true ↦ [] | false ↦ digits-by k (n / 10) ] ++ (48 + n % 10) ∷ []
 
--- no number of 64 bits has more than 20
+-- the digits of a number; none of 64 bits has more than 20
 unfoldable pub digits-of : ℕ → List ℕ
 digits-of n = digits-by 20 n
 

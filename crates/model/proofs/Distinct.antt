@@ -8,19 +8,12 @@ use native.Mathlib.Omega.{arith}
 use lib.ListN.{length}
 use lib.Dec.{eqb}
 use Rattle.std.proofs.shelf.Tests.{both-ways, eqb-true, eqb-false, eq-eqb, ne-eqb, or-cases, or-parts, or-from, or-left, or-right}
-use Rattle.model.specs.Trains.{one-of, lowest-from, lowest-free}
+use Rattle.model.specs.Trains.{one-of, Distinct, lowest-from, lowest-free}
 use Rattle.model.specs.Laws.{numbered}
-
-abbrev pub Distinct : List ℕ → Type 0
-Distinct [] = Unit {0}
-Distinct (x ∷ xs) = (one-of x xs ≡ false) × Distinct xs
 
 abbrev pub sum-by : (ℕ → ℕ) → List ℕ → ℕ
 sum-by f [] = 0
 sum-by f (x ∷ xs) = f x + sum-by f xs
-
-pub eqb-swap : (x y : ℕ) → eqb x y ≡ false → eqb y x ≡ false
-eqb-swap x y e = ne-eqb y x (λ p. eqb-false x y e (sym p))
 
 pub one-of-here : (x : ℕ) (xs : List ℕ) → one-of x (x ∷ xs) ≡ true
 one-of-here x xs = or-left (eqb x x) (one-of x xs) (eq-eqb x x refl)
@@ -62,12 +55,6 @@ one-of-++ x (y ∷ xs) ys = go (eqb x y) (one-of-++ x xs ys)
     go : (b : Bool) → one-of x (xs ++ ys) ≡ (one-of x xs || one-of x ys) → (b || one-of x (xs ++ ys)) ≡ ((b || one-of x xs) || one-of x ys)
     go true e = refl
     go false e = e
-
-pub one-of-neither : (x : ℕ) (xs ys : List ℕ) → one-of x (xs ++ ys) ≡ false → (one-of x xs ≡ false) × (one-of x ys ≡ false)
-one-of-neither x xs ys e = or-parts (one-of x xs) (one-of x ys) (sym (one-of-++ x xs ys) ∙ e)
-
-pub one-of-none : (x : ℕ) (xs ys : List ℕ) → one-of x xs ≡ false → one-of x ys ≡ false → one-of x (xs ++ ys) ≡ false
-one-of-none x xs ys p q = one-of-++ x xs ys ∙ or-from (one-of x xs) (one-of x ys) p q
 
 -- the list without the first x
 abbrev pub without : ℕ → List ℕ → List ℕ

@@ -14,16 +14,16 @@ use Rattle.remembered.specs.Meaning.{Row, forget}
 use Rattle.remembered.specs.Meaning.{Meaning as Remembers, Lawful as Remembers-lawfully}
 use Rattle.model.specs.Calls.{Call, make, access, step, tally, History}
 use Rattle.model.specs.Bodies.{Shape, Body, fresh, size, with-ref, with-value, is-root, Effect, leave, hold, point, store, reply-of}
-use Rattle.model.specs.Trains.{Obj, Car, Train, Trains, train-objects, objects, words-of, words-in-use, obj-size, times, is, among, car-numbers, numbers, one-of, lowest-free, place-at, arrival, inside, alter, car-words}
+use Rattle.model.specs.Trains.{Distinct, Obj, Car, Train, Trains, train-objects, objects, words-of, words-in-use, obj-size, times, is, among, car-numbers, numbers, one-of, lowest-free, place-at, arrival, inside, alter, car-words}
 use Rattle.model.specs.Claims.{Wish, Claim}
 use Rattle.model.specs.Step.{first-to, outside, wishes, claimed, place-all}
 use Rattle.model.specs.Notes.{Seat, seat, Slot, train-slots, slots, notes, target-among, touched, is-slot, tell, forget-all}
 use Rattle.model.specs.Space.{Model, all-objects, space-make, made-by, has-room, space-with, carried, trains-after, step-by, step-on, act, space-of}
-use Rattle.model.specs.Remembered.{Each-slot, All-differ, no-reference-is-overlooked}
+use Rattle.model.specs.Remembered.{Each-slot, no-reference-is-overlooked}
 use Rattle.model.proofs.Totals.{total-++, claims-total, place-at-total}
 use Rattle.model.proofs.Sound.{All, Points, Sized, Filled, All-filled, Sound-at, Sound}
 use Rattle.model.proofs.Alls.{all-left, all-right, claims-all, place-at-all}
-use Rattle.model.proofs.Distinct.{Distinct, one-of-here, one-of-there, one-of-apart, lowest-unused}
+use Rattle.model.proofs.Distinct.{one-of-here, one-of-there, one-of-apart, lowest-unused}
 use Rattle.model.proofs.Cars.{Ranks-below, filled-tail, filled-place-at, length-place-at, few-cars, length-numbers}
 use Rattle.model.proofs.Closure.{is-self}
 use Rattle.model.proofs.Alters.{ref-size, value-size, objects-alter, alter-all}
@@ -340,10 +340,6 @@ module _ (M : Meaning) (law : Lawful M) (has : Remembers) (told-law : Remembers-
 
 -- The law.
 
-all-differ : (ns : List ℕ) → Distinct ns → All-differ ns
-all-differ [] d = tt
-all-differ (n ∷ ns) d = (d .0, all-differ ns (d .1))
-
 pub overlooked-law : no-reference-is-overlooked
 overlooked-law M law has told-law h =
     let m = space-of M has h in
@@ -360,7 +356,7 @@ overlooked-law M law has told-law h =
     let told = noted-slots M has (m .told) Always 0 t (rem .noted) in
     record {
       below = λ n e. rem .numbered .0 n (subst (λ (ns : List ℕ). one-of n ns ≡ true) (sym (row-numbers ts)) e);
-      differ = subst All-differ (row-numbers ts) (all-differ (car-numbers t) (rem .numbered .1));
+      differ = subst Distinct (row-numbers ts) (rem .numbered .1);
       addresses = addresses-below M law ts (s .filled) (rem .numbered) (rem .shaped);
       lies = subst (λ (ss : List Slot). Each-slot (By L) ss) (sym (row-slots M 0 ts)) lie;
       remembered = subst (λ (ss : List Slot). Each-slot (λ v. (y : ℕ) (c : Seat) → v .target ≡ Some y → seat 0 y ts ≡ Some c → c .order < v .order → has (m .told) (c .number) (v .address) ≡ true) ss) (sym (row-slots M 0 ts))

@@ -12,10 +12,10 @@ use Rattle.std.specs.declared.option.Option.{Option}
 use Rattle.std.specs.declared.option.Option.the-variants.{Some, None}
 use Rattle.layout.specs.Meaning.{Meaning}
 use Rattle.model.specs.Bodies.{Body}
-use Rattle.model.specs.Trains.{Obj, Car, Train, Trains, train-objects, objects, times, is, among, car-numbers, numbers, one-of, fits, with-object, opened, place, place-at, alter-objects, alter-train, alter, car-words}
+use Rattle.model.specs.Trains.{Distinct, Obj, Car, Train, Trains, train-objects, objects, times, is, among, car-numbers, numbers, one-of, fits, with-object, opened, place, place-at, alter-objects, alter-train, alter, car-words}
 use Rattle.model.specs.Step.{trim}
 use Rattle.model.specs.Notes.{Seat, train-seat, seat, object-slots, train-slots, slots}
-use Rattle.model.proofs.Distinct.{Distinct, one-of-here, one-of-there, one-of-head, one-of-apart, one-of-right}
+use Rattle.model.proofs.Distinct.{one-of-here, one-of-there, one-of-head, one-of-apart, one-of-right}
 use Rattle.model.proofs.Totals.{total-++}
 
 -- the cars of all trains, one train after another

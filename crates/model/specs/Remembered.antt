@@ -7,7 +7,7 @@ use Rattle.std.specs.declared.option.Option.the-variants.{Some}
 use Rattle.layout.specs.Meaning.{Meaning, Lawful}
 use Rattle.remembered.specs.Meaning.{Meaning as Remembers, Lawful as Remembers-lawfully}
 use Rattle.model.specs.Calls.{History}
-use Rattle.model.specs.Trains.{numbers, one-of, car-count}
+use Rattle.model.specs.Trains.{numbers, one-of, Distinct, car-count}
 use Rattle.model.specs.Notes.{Seat, seat, Slot, slots}
 use Rattle.model.specs.Space.{Model, space-of}
 
@@ -15,11 +15,6 @@ use Rattle.model.specs.Space.{Model, space-of}
 abbrev pub Each-slot : (Slot → Type 0) → List Slot → Type 0
 Each-slot P [] = Unit {0}
 Each-slot P (s ∷ ss) = P s × Each-slot P ss
-
--- no number stands twice in a list
-abbrev pub All-differ : List ℕ → Type 0
-All-differ [] = Unit {0}
-All-differ (n ∷ ns) = (one-of n ns ≡ false) × All-differ ns
 
 -- if the slot stands in a later car than the car of the object it holds, the set has its address for that car
 abbrev pub Remembered-if-later : Remembers → Model → Slot → Type 0
@@ -37,7 +32,7 @@ address-count = 8192
 
 pub record Nothing-overlooked (M : Meaning) (has : Remembers) (m : Model) : Type 0 where
   pub below : (n : ℕ) → one-of n (numbers (m .trains)) ≡ true → n < car-count
-  pub differ : All-differ (numbers (m .trains))
+  pub differ : Distinct (numbers (m .trains))
   pub addresses : Each-slot (λ s. s .address < address-count) (slots M 0 (m .trains))
   pub lies : Each-slot (Holds-what-lies m) (slots M 0 (m .trains))
   pub remembered : Each-slot (Remembered-if-later has m) (slots M 0 (m .trains))

@@ -2,6 +2,7 @@
 use Prim.Native.Nat.{ℕ, zero, suc, pred, _+_}
 use mathlib.Core.Bool.{Bool, true, false, _||_, _&&_, cond}
 use mathlib.Core.List.{List, [], _∷_, _++_}
+use mathlib.Core.Path.{_≡_}
 use lib.ListN.{length}
 use lib.Dec.{eqb, ltb, leb}
 use Rattle.std.specs.declared.option.Option.{Option}
@@ -73,6 +74,11 @@ numbers (t ∷ ts) = car-numbers t ++ numbers ts
 abbrev pub one-of : ℕ → List ℕ → Bool
 one-of n [] = false
 one-of n (m ∷ ms) = eqb n m || one-of n ms
+
+-- no number stands twice
+abbrev pub Distinct : List ℕ → Type 0
+Distinct [] = Unit {0}
+Distinct (n ∷ ns) = (one-of n ns ≡ false) × Distinct ns
 
 -- the lowest number from n on that is not among the used ones, if it is found in so many tries
 abbrev pub lowest-from : (tries n : ℕ) → List ℕ → ℕ

@@ -23,14 +23,16 @@ use Rattle.calls.specs.Faults.{no-number, bad-words, line-fault, player-fault, 
 abbrev pub word : List ℕ → ℕ → Word
 word line k = elim (word-no (words line) k) [ Some w ↦ w | None ↦ record { text = []; place = length line } ]
 
+-- the number that a word writes, or the word's fault
 abbrev pub number-or : {X : Type 0} → WordFault → Option X → Result X WordFault
 number-or f None = Err f
 number-or f (Some x) = Ok x
 
--- word k of line n as a number of either range
+-- word k of line n as a number from 0 to 4,294,967,295
 abbrev pub natural-at : ℕ → List ℕ → ℕ → Result ℕ WordFault
 natural-at n line k = number-or (no-number n (word line k .place)) (natural-of (word line k .text))
 
+-- word k of line n as a number from -2,147,483,648 to 2,147,483,647
 abbrev pub integer-at : ℕ → List ℕ → ℕ → Result ℤ WordFault
 integer-at n line k = number-or (no-number n (word line k .place)) (integer-of (word line k .text))
 

@@ -26,6 +26,7 @@ abbrev pub placed : ℕ → List (List ℕ) → List Word
 placed at [] = []
 placed at (p ∷ ps) = record { text = p; place = at } ∷ placed (at + length p + 1) ps
 
+-- the words of a line; the first begins at 0
 abbrev pub words : List ℕ → List Word
 words line = placed 0 (cut line)
 
@@ -40,6 +41,7 @@ abbrev pub seen : Token → Word
 seen (Name text place) = record { text = text .now; place = place }
 seen (Number text place) = record { text = text .now; place = place }
 
+-- whether a token is a call's name
 abbrev pub is-name : Token → Bool
 is-name (Name text place) = true
 is-name (Number text place) = false

@@ -2,6 +2,7 @@
 ghost use mathlib.Core.Path.{_≡_};
 ghost use Prim.Native.Nat.{_≤_};
 ghost use Rattle.script_reader.specs.declared.names.Name.the-variants.{Make, Link, Follow, Drop, Put, Lift, Get, Same};
+ghost use Rattle.calls.specs.Faults.{bad-words, no-number};
 ghost use Rattle.script_reader.specs.Reader.{natural-at, integer-at, numbers-of, name-of, counted, line-of, player-of};
 use crate::names::Name;
 use crate::numbers::integer;
@@ -14,28 +15,37 @@ use calls::faults::PlayerFault;
 use calls::faults::PlayerFromLine;
 use calls::faults::WordFault;
 
-const WORDS: u8 = 9;
+// A word of this line is missing, surplus, or names no call.
+fn bad_words(line: u32, place: usize) -> LineFault
+    ensures { λ r. ⌜ r ≡ bad-words line place ⌝ }
+{
+    LineFault {
+        number: 9,
+        line,
+        place,
+    }
+}
 
-const NUMBER: u8 = 10;
+// A word of this line is not a number of its range.
+fn no_number(line: u32, place: usize) -> WordFault
+    ensures { λ r. ⌜ r ≡ no-number line place ⌝ }
+{
+    WordFault {
+        number: 10,
+        line,
+        place,
+    }
+}
 
 fn call_name(line: &[u8], number: u32) -> Result<Name, LineFault>
     ensures { λ r. ⌜ r ≡ name-of number (now (line .entry)) ⌝ }
 {
-    let place = 0;
     let Some(first) = nth_word(line, 0) else {
-        return Err(LineFault {
-            number: WORDS,
-            line: number,
-            place,
-        });
+        return Err(bad_words(number, 0));
     };
     match Name::of(first.text()) {
         Some(name) => Ok(name),
-        None => Err(LineFault {
-            number: WORDS,
-            line: number,
-            place,
-        }),
+        None => Err(bad_words(number, 0)),
     }
 }
 
@@ -46,19 +56,11 @@ fn exactly(line: &[u8], count: usize, number: u32) -> Result<(), LineFault>
 {
     let last = nth_word(line, count);
     if last.is_none() {
-        return Err(LineFault {
-            number: WORDS,
-            line: number,
-            place: line.len(),
-        });
+        return Err(bad_words(number, line.len()));
     }
     match nth_word(line, count + 1) {
         None => Ok(()),
-        Some(surplus) => Err(LineFault {
-            number: WORDS,
-            line: number,
-            place: surplus.place(),
-        }),
+        Some(surplus) => Err(bad_words(number, surplus.place())),
     }
 }
 
@@ -66,19 +68,11 @@ fn natural_word(line: &[u8], index: usize, number: u32) -> Result<u32, WordFault
     ensures { λ r. ⌜ r ≡ natural-at number (now (line .entry)) index ⌝ }
 {
     let Some(word) = nth_word(line, index) else {
-        return Err(WordFault {
-            number: NUMBER,
-            line: number,
-            place: line.len(),
-        });
+        return Err(no_number(number, line.len()));
     };
     match natural(word.text()) {
         Some(value) => Ok(value),
-        None => Err(WordFault {
-            number: NUMBER,
-            line: number,
-            place: word.place(),
-        }),
+        None => Err(no_number(number, word.place())),
     }
 }
 
@@ -86,19 +80,11 @@ fn integer_word(line: &[u8], index: usize, number: u32) -> Result<i32, WordFault
     ensures { λ r. ⌜ r ≡ integer-at number (now (line .entry)) index ⌝ }
 {
     let Some(word) = nth_word(line, index) else {
-        return Err(WordFault {
-            number: NUMBER,
-            line: number,
-            place: line.len(),
-        });
+        return Err(no_number(number, line.len()));
     };
     match integer(word.text()) {
         Some(value) => Ok(value),
-        None => Err(WordFault {
-            number: NUMBER,
-            line: number,
-            place: word.place(),
-        }),
+        None => Err(no_number(number, word.place())),
     }
 }
 

@@ -17,11 +17,13 @@ use Rattle.calls.specs.declared.faults.PlayerFault.{PlayerFault}
 use Rattle.calls.specs.Answers.{refusal-number}
 use Rattle.calls.specs.Numbers.{digits-of}
 
+-- the kind of a step's report
 abbrev pub freed-word : Freed → List ℕ
 freed-word Idle = codes "idle"
 freed-word Train = codes "train"
 freed-word Car = codes "car"
 
+-- where a fault comes from
 abbrev pub layer-word : Layer → List ℕ
 layer-word Reader = codes "reader"
 
@@ -43,6 +45,7 @@ code-of (Same b) = 0
 code-of (Tally u) = 0
 code-of (Step s) = 0
 
+-- what stands behind the code
 abbrev pub parts : Answer → List (List ℕ)
 parts (Refused r) = []
 parts Done = []
@@ -52,10 +55,11 @@ parts (Tally u) = digits-of (u .words) ∷ digits-of (u .cars) ∷ digits-of (u 
 parts (Step s) =
     freed-word (s .kind) ∷ digits-of (s .out) ∷ digits-of (s .back) ∷ digits-of (s .copied) ∷ digits-of (s .lost) ∷ digits-of (s .looked) ∷ digits-of (s .cars) ∷ []
 
+-- the line that answers a call
 abbrev pub answer-line : Answer → List ℕ
 answer-line a = digits-of (code-of a) ++ spaced (parts a)
 
--- as in `reader 9 line 4 at 8`
+-- the line that tells a fault, as `reader 9 line 4 at 8`
 abbrev pub fault-line : PlayerFault → List ℕ
 fault-line f = layer-word (f .layer) ++ spaced (digits-of (f .number) ∷ codes "line" ∷ digits-of (f .line) ∷ codes "at" ∷ digits-of (f .place) ∷ [])
 
