@@ -1,7 +1,7 @@
 -- What the product admits at its edges.
-use mathlib.Core.Bool.{Bool, true, false}
+use mathlib.Core.Bool.{true, false}
 use mathlib.Core.Path.{_≡_, refl}
-use Rattle.layout.specs.Product.{product-meaning, product-coding}
+use Rattle.layout.specs.Product.{product-meaning}
 
 empty-record : product-meaning .admits 0 0 0 ≡ false
 empty-record = refl

@@ -1,6 +1,6 @@
 -- Each reference and each data word has an offset of its own.
 use Prim.Native.Nat.{ℕ, _<_}
-use mathlib.Core.Logic.{inl, inr, ⊎-elim}
+use mathlib.Core.Logic.{⊎-elim}
 use mathlib.Core.Path.{_≡_}
 use native.Mathlib.Omega.{arith}
 use Rattle.std.proofs.shelf.Tests.{cases-order}

@@ -1,13 +1,12 @@
 -- The product's shapes, number by number.
-use Prim.Native.Nat.{ℕ, _+_, _*_, _-_, _<_, _≤_}
-use mathlib.Core.Bool.{Bool, true, false}
-use mathlib.Core.Logic.{_⊎_, inl, inr}
+use Prim.Native.Nat.{ℕ, _-_}
+use mathlib.Core.Bool.{true}
+use mathlib.Core.Logic.{inl, inr}
 use mathlib.Core.Path.{_≡_, refl}
 use native.Mathlib.Omega.{arith}
-use lib.Dec.{eqb, leb, ltb}
 use Rattle.std.proofs.shelf.Ways.{tells}
-use Rattle.layout.specs.Record.{record-meaning, record-coding, record-admits}
-use Rattle.layout.specs.Array.{array-meaning, array-coding, array-admits}
+use Rattle.layout.specs.Record.{record-admits}
+use Rattle.layout.specs.Array.{array-admits}
 use Rattle.layout.specs.Product.{product-meaning, product-coding, ProductShape, ProductObject, ProductShapes, SmallHeaders}
 
 these : (k r w : ℕ) → ProductShape k r w → product-meaning .admits k r w ≡ true

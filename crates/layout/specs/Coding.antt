@@ -1,11 +1,11 @@
 -- How header words stand for shapes, and what a header word tells of its object, whatever the word is.
 use Prim.Native.Nat.{ℕ, _+_, _<_, _≤_}
-use mathlib.Core.Bool.{Bool, true, false}
+use mathlib.Core.Bool.{true, false}
 use mathlib.Core.Path.{_≡_}
 use native.Mathlib.Omega.{arith}
 use Rattle.std.specs.declared.option.Option.{Option}
 use Rattle.std.specs.Options.{Cases}
-use Rattle.layout.specs.Meaning.{Meaning, Apart, Lawful}
+use Rattle.layout.specs.Meaning.{Meaning, Apart}
 
 pub record Coding : Type 0 where
   -- the header word of a shape; that of one not admitted means nothing

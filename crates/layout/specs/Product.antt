@@ -1,13 +1,13 @@
 -- The product's layout: records are kind 0 and arrays kind 1.
 use Prim.Native.Nat.{ℕ, _+_, _<_, _≤_}
-use mathlib.Core.Bool.{Bool, true, false}
+use mathlib.Core.Bool.{true}
 use mathlib.Core.Logic.{_⊎_}
 use mathlib.Core.Path.{_≡_}
 use Rattle.layout.specs.Meaning.{Meaning}
 use Rattle.layout.specs.Coding.{Coding}
-use Rattle.layout.specs.Record.{record-meaning, record-coding, RecordShape}
-use Rattle.layout.specs.Array.{array-meaning, array-coding, ArrayShape}
-use Rattle.layout.specs.Pair.{pair-meaning, pair-coding, half-headers}
+use Rattle.layout.specs.Record.{record-meaning, record-coding}
+use Rattle.layout.specs.Array.{array-meaning, array-coding}
+use Rattle.layout.specs.Pair.{pair-meaning, pair-coding}
 
 abbrev pub product-meaning : Meaning
 product-meaning = pair-meaning record-meaning record-coding array-meaning array-coding

@@ -1,6 +1,5 @@
 // Arrays: 1 to 63 references and no data words.
-ghost use mathlib.Core.Path.{_≡_};
-ghost use Rattle.layout.specs.Array.{array-meaning, array-coding, array-lawful, array-coded, array-length};
+ghost use Rattle.layout.specs.Array.{array-meaning, array-coding, array-lawful, array-coded};
 use crate::Layout;
 
 #[derive(Clone, Copy)]

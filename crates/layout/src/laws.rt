@@ -1,5 +1,4 @@
 // What holds of every layout.
-ghost use Prim.Native.Nat.{ℕ};
 ghost use mathlib.Core.Bool.{true, false};
 ghost use mathlib.Core.Path.{_≡_};
 ghost use Rattle.layout.specs.Coding.{Coded};

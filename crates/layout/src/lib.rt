@@ -1,5 +1,5 @@
 // Layouts: which shapes of objects there are, and what a header word tells of its object.
-ghost use Prim.Native.Nat.{ℕ, _+_, _≤_};
+ghost use Prim.Native.Nat.{_+_, _≤_};
 ghost use mathlib.Core.Path.{_≡_};
 ghost use Rattle.layout.specs.Coding.{Coding, Coded, Headed, Nth, Inside, Which};
 ghost use Rattle.layout.specs.Meaning.{Meaning, Lawful};

@@ -1,6 +1,6 @@
 // Two layouts beside each other. The lowest bit of a header tells which one it belongs to, so that pairs nest:
 // a pair of small headers has small headers again.
-ghost use Prim.Native.Nat.{ℕ, _+_, _-_, _*_, _<_, _≤_};
+ghost use Prim.Native.Nat.{_+_, _-_, _*_, _<_, _≤_};
 ghost use mathlib.Core.Path.{_≡_};
 ghost use Rattle.layout.specs.Pair.{pair-meaning, pair-coding, pair-lawful, pair-coded, half-headers};
 ghost use Rattle.std.specs.Options.{Cases};

@@ -1,5 +1,5 @@
 // The layout that the product uses: records are kind 0 and arrays kind 1.
-ghost use Prim.Native.Nat.{ℕ, _+_, _<_};
+ghost use Prim.Native.Nat.{_<_};
 ghost use mathlib.Core.Path.{_≡_};
 ghost use Rattle.layout.specs.Product.{ProductShape, ProductShapes, SmallHeaders, product-meaning, product-coding};
 ghost use Rattle.std.specs.Options.{Cases};

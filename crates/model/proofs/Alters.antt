@@ -1,15 +1,15 @@
 -- A changed reference or data word moves no object and changes no size.
-use Prim.Native.Nat.{ℕ, zero, suc, _+_, _≤_, _<_}
+use Prim.Native.Nat.{ℕ, zero, suc, _+_}
 use mathlib.Core.Bool.{Bool, true, false, cond}
 use mathlib.Core.List.{List, [], _∷_, _++_}
-use mathlib.Core.Path.{_≡_, refl, sym, ap, ap₂, subst, _∙_}
+use mathlib.Core.Path.{_≡_, refl, sym, ap, ap₂, _∙_}
 use native.Mathlib.Omega.{arith}
 use lib.ListN.{length, getD, set, length-set}
 use lib.Dec.{eqb}
 use Rattle.std.specs.declared.option.Option.{Option}
 use Rattle.std.specs.declared.option.Option.the-variants.{Some, None}
 use Rattle.model.specs.Bodies.{Body, size, with-ref, with-value}
-use Rattle.model.specs.Trains.{Obj, Car, Train, Trains, train-objects, objects, total, obj-size, words-of, times, is, alter-object, alter-objects, alter-train, alter}
+use Rattle.model.specs.Trains.{Obj, Train, Trains, train-objects, objects, total, obj-size, words-of, times, is, alter-object, alter-objects, alter-train, alter}
 use Rattle.model.proofs.Sound.{All, Filled, All-filled, Standing, first-objects}
 
 pub ref-size : (i : ℕ) (h : Option ℕ) (b : Body) → size (with-ref i h b) ≡ size b

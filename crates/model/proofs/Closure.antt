@@ -1,5 +1,5 @@
 -- Carrying is closed: what a claimed object or a wish holds is not left in the car.
-use Prim.Native.Nat.{ℕ, zero, suc, _+_, _≤_, _<_}
+use Prim.Native.Nat.{ℕ, zero, suc, _+_, _≤_}
 use mathlib.Core.Bool.{Bool, true, false, cond}
 use mathlib.Core.List.{List, [], _∷_, _++_}
 use mathlib.Core.Logic.{_⊎_, inl, inr}
@@ -10,10 +10,10 @@ use lib.Dec.{eqb}
 use Rattle.std.proofs.shelf.Tests.{ne-eqb, eq-eqb}
 use Rattle.std.specs.declared.option.Option.{Option}
 use Rattle.std.specs.declared.option.Option.the-variants.{Some, None}
-use Rattle.model.specs.Trains.{Obj, Car, Train, Trains, train-objects, objects, total, times, is, one-if}
-use Rattle.model.specs.Claims.{Taken, sort-out, take-out, then, visit, close, claim, Wish, Claim, Carried, all-to, claims, ref-wishes, object-wishes, train-wishes, trains-wishes}
+use Rattle.model.specs.Trains.{Obj, Train, Trains, train-objects, objects, total, times, is, one-if}
+use Rattle.model.specs.Claims.{sort-out, take-out, then, visit, close, claim, Wish, Claim, all-to, claims, ref-wishes, object-wishes, train-wishes, trains-wishes}
 use Rattle.model.specs.Step.{claimed, out-of, is-zero}
-use Rattle.model.proofs.Totals.{total-++, take-out-total, visit-total, close-total, claim-total, claims-total}
+use Rattle.model.proofs.Totals.{take-out-total, visit-total, close-total, claim-total, claims-total}
 use Rattle.model.proofs.Sound.{All, Points}
 use Rattle.model.proofs.Alls.{all-++, all-left, all-right}
 
@@ -171,10 +171,6 @@ wished-left x (v ∷ vs) ws (inr h) = inr (wished-left x vs ws h)
 pub wished-right : (x : ℕ) (vs ws : List Wish) → Wished x ws → Wished x (vs ++ ws)
 wished-right x [] ws h = h
 wished-right x (v ∷ vs) ws h = inr (wished-right x vs ws h)
-
-pub out-++ : (xs ys : List Claim) → out-of (xs ++ ys) ≡ out-of xs + out-of ys
-out-++ [] ys = omega arith
-out-++ (c ∷ xs) ys = omega (arith, out-++ xs ys)
 
 pub above-counts : (k : ℕ) → 1 ≤ k → _≡_ {A = ℕ} (cond (is-zero k) 0 1) 1
 above-counts k h = ap (λ b. cond b 0 1) (ne-eqb k 0 (λ e. omega arith))

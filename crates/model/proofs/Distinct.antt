@@ -7,7 +7,7 @@ use mathlib.Core.Path.{_≡_, refl, sym, ap, _∙_, subst}
 use native.Mathlib.Omega.{arith}
 use lib.ListN.{length}
 use lib.Dec.{eqb}
-use Rattle.std.proofs.shelf.Tests.{both-ways, eqb-true, eqb-false, eq-eqb, ne-eqb, or-cases, or-parts, or-from, or-left, or-right}
+use Rattle.std.proofs.shelf.Tests.{both-ways, eqb-true, eqb-false, eq-eqb, ne-eqb, or-cases, or-from, or-left, or-right}
 use Rattle.model.specs.Trains.{one-of, Distinct, lowest-from, lowest-free}
 use Rattle.model.specs.Laws.{numbered}
 
@@ -47,14 +47,6 @@ one-of-either x (y ∷ xs) ys e =
       | inl p ↦ inl (or-left (eqb x y) (one-of x xs) p)
       | inr p ↦ elim (one-of-either x xs ys p) [ inl q ↦ inl (or-right (eqb x y) (one-of x xs) q) | inr q ↦ inr q ]
     ]
-
-pub one-of-++ : (x : ℕ) (xs ys : List ℕ) → one-of x (xs ++ ys) ≡ (one-of x xs || one-of x ys)
-one-of-++ x [] ys = refl
-one-of-++ x (y ∷ xs) ys = go (eqb x y) (one-of-++ x xs ys)
-  where
-    go : (b : Bool) → one-of x (xs ++ ys) ≡ (one-of x xs || one-of x ys) → (b || one-of x (xs ++ ys)) ≡ ((b || one-of x xs) || one-of x ys)
-    go true e = refl
-    go false e = e
 
 -- the list without the first x
 abbrev pub without : ℕ → List ℕ → List ℕ

@@ -1,16 +1,15 @@
 -- What a call on the roots' objects changes: it brings in only what a root holds or a reference of a root's object.
-use Prim.Native.Nat.{ℕ, zero, suc, _+_, _<_}
+use Prim.Native.Nat.{ℕ, _<_}
 use mathlib.Core.Bool.{Bool, true, false, _&&_}
-use mathlib.Core.List.{List, [], _∷_}
-use mathlib.Core.Path.{_≡_, refl, sym, ap, _∙_}
+use mathlib.Core.Path.{_≡_, refl}
 use native.Mathlib.Omega.{arith}
 use lib.ListN.{length, getD}
 use lib.Dec.{ltb, leb}
 use Rattle.std.specs.declared.option.Option.{Option}
 use Rattle.std.specs.declared.option.Option.the-variants.{Some, None}
 use Rattle.std.proofs.shelf.Tests.{ltb-true}
-use Rattle.model.specs.Calls.{Access, link, follow, drop, put, lift, get, words, same, Refusal, root, empty, missing, range, buffer, done, value, wrote, alike}
-use Rattle.model.specs.Bodies.{Body, Roots, held, is-root, Effect, leave, hold, point, store, Reply, refuse, reply, Found, nobody, found, with-body, object-of, unless, on-found, on-object, lifted, store-lifted, both-hold, reply-of}
+use Rattle.model.specs.Calls.{Access, link, follow, drop, put, lift, get, words, same, Refusal, root, missing, buffer}
+use Rattle.model.specs.Bodies.{Body, Roots, held, is-root, Effect, leave, hold, point, store, Reply, Found, nobody, found, with-body, object-of, unless, on-object, lifted, store-lifted, reply-of}
 
 -- a root holds x, whose object has b inside
 pub record Held (find : ℕ → Option Body) (rs : Roots) (x : ℕ) (b : Body) : Type 0 where

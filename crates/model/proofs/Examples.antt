@@ -1,21 +1,19 @@
 -- The worked examples, by computing the definitions.
-use Prim.Native.Nat.{ℕ, _+_, _≤_, _<_}
+use Prim.Native.Nat.{ℕ, _+_}
 use mathlib.Core.Bool.{Bool, true, false}
-use mathlib.Core.Path.{_≡_, refl, sym, ap, subst, _∙_}
+use mathlib.Core.Path.{_≡_, refl}
 use native.Mathlib.Omega.{arith}
-use lib.Dec.{leb}
 use Rattle.std.proofs.shelf.Tests.{lt-leb}
 use Rattle.layout.specs.Product.{product-meaning}
 use Rattle.layout.specs.Pair.{pair-lawful}
 use Rattle.layout.specs.Record.{record-meaning, record-coding, record-lawful, record-coded}
 use Rattle.layout.specs.Array.{array-meaning, array-coding, array-lawful}
 use Rattle.remembered.specs.Slots.{slot-has}
-use Rattle.remembered.specs.Cards.{card-has}
 use Rattle.layout.specs.Meaning.{Lawful}
-use Rattle.model.specs.Calls.{make, Answer, refused, full}
+use Rattle.model.specs.Calls.{make, refused, full}
 use Rattle.model.specs.Bodies.{fresh, size, is-root}
 use Rattle.model.specs.Trains.{words-in-use, capacity}
-use Rattle.model.specs.Space.{Model, opening, space-make, has-room, act}
+use Rattle.model.specs.Space.{Model, opening, space-make, act}
 use Rattle.model.specs.Examples.{Worked-examples, behind, repeated}
 use Rattle.model.proofs.Cars.{fresh-sized}
 

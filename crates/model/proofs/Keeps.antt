@@ -2,30 +2,30 @@
 use Prim.Native.Nat.{ℕ, zero, suc, _+_, _≤_, _<_}
 use mathlib.Core.Bool.{Bool, true, false, cond}
 use mathlib.Core.List.{List, [], _∷_, _++_}
-use mathlib.Core.Logic.{_⊎_, inl, inr}
+use mathlib.Core.Logic.{inl, inr}
 use mathlib.Core.Path.{_≡_, refl, sym, ap, subst, _∙_}
 use native.Mathlib.Omega.{arith}
-use lib.ListN.{length, getD, set, replicate}
-use lib.Dec.{eqb, ltb, leb}
-use Rattle.std.proofs.shelf.Tests.{ne-eqb, eq-eqb, eqb-true, eqb-false, leb-true, ltb-true, ltb-false, cases-eq, cases-lt}
+use lib.ListN.{length, getD, replicate}
+use lib.Dec.{eqb}
+use Rattle.std.proofs.shelf.Tests.{ne-eqb, leb-true, ltb-false, cases-eq, cases-lt}
 use Rattle.std.specs.declared.option.Option.{Option}
 use Rattle.std.specs.declared.option.Option.the-variants.{Some, None}
 use Rattle.layout.specs.Meaning.{Meaning, Lawful}
 use Rattle.remembered.specs.Meaning.{Meaning as Remembers}
 use Rattle.model.specs.Calls.{Call, make, access, step, tally, Access, History}
-use Rattle.model.specs.Bodies.{Body, Roots, held, fresh, size, with-ref, with-value, is-root, root-count, Effect, leave, hold, point, store, reply-of}
-use Rattle.model.specs.Trains.{Obj, Car, Train, Trains, train-objects, objects, total, words-of, words-in-use, obj-size, times, is, one-if, among, inside, alter, alter-object, alter-objects, place, place-at, arrival, numbers, lowest-free, capacity, most-trains}
-use Rattle.model.specs.Claims.{Wish, Claim, Carried, claims, ref-wishes, train-wishes, trains-wishes}
-use Rattle.model.specs.Step.{Mark, first-to, outside, mark-wishes, wishes, claimed, place-all, trim, out-of, mark-after, guard}
-use Rattle.model.specs.Space.{Model, opening, all-objects, space-make, made-by, has-room, space-with, carried, trains-after, free-train, free-car, step-by, step-on, act, space-of}
+use Rattle.model.specs.Bodies.{Body, held, fresh, size, with-ref, with-value, is-root, root-count, Effect, leave, hold, point, store, reply-of}
+use Rattle.model.specs.Trains.{Obj, Car, Train, Trains, train-objects, objects, total, words-of, words-in-use, obj-size, times, is, one-if, among, inside, alter, alter-object, place, place-at, arrival, numbers, lowest-free, capacity, most-trains}
+use Rattle.model.specs.Claims.{Wish, Claim, claims, ref-wishes, train-wishes, trains-wishes}
+use Rattle.model.specs.Step.{Mark, first-to, outside, mark-wishes, wishes, place-all, trim, out-of, mark-after, guard}
+use Rattle.model.specs.Space.{Model, opening, all-objects, space-make, made-by, has-room, space-with, carried, trains-after, step-by, step-on, act, space-of}
 use Rattle.model.proofs.Totals.{total-++, claims-total, place-total, place-at-total, place-all-total, trim-objects}
-use Rattle.model.proofs.Sound.{All, Points, Sized, Filled, All-filled, Standing, first-objects, Marked, Sound-at, Sound}
+use Rattle.model.proofs.Sound.{All, Points, Sized, first-objects, Marked, Sound-at, Sound}
 use Rattle.model.proofs.Alls.{all-++, all-left, all-right, claims-all, place-at-all, place-all-all}
 use Rattle.model.proofs.Cars.{filled-tail, filled-place-at, filled-place-all, filled-trim, standing-place-at, standing-trim-all, length-place-at, length-place-all, length-trim, arrival-below, fresh-sized}
-use Rattle.model.proofs.Closure.{is-self, Wished, Each, each-++, each-left, each-right, claims-none, claims-done, Done, ref-each, train-each, trains-each, out-some}
-use Rattle.model.proofs.Effects.{Held, Has-ref, Has-word, Brings, brings}
+use Rattle.model.proofs.Closure.{is-self, Wished, Each, each-left, each-right, claims-none, claims-done, ref-each, train-each, trains-each, out-some}
+use Rattle.model.proofs.Effects.{Brings, brings}
 use Rattle.model.proofs.Alters.{ref-size, value-size, objects-alter, first-alter, length-alter, alter-times, alter-all, alter-size, alter-words, all-filled-alter, standing-alter, set-either}
-use Rattle.model.proofs.Outside.{first-none, first-some, Sends, outside-ranks, away, wishes-split, away-ranks, wishes-above, outside-away, mark-away, claims-below, wishes-below}
+use Rattle.model.proofs.Outside.{first-none, first-some, Sends, outside-ranks, away, wishes-split, away-ranks, wishes-above, outside-away, claims-below, wishes-below}
 
 pub all-with : (P Q R : Obj → Type 0) → ((o : Obj) → P o → Q o → R o) → (os : List Obj) → All P os → All Q os → All R os
 all-with P Q R h [] a b = tt
@@ -221,9 +221,6 @@ step-all P f cs ts m a =
 
 -- no reference is overlooked: what a root or an object in a car holds is not lost
 module _ (f : Car) (cs : Train) (ts : Trains) (m : Model) where
-  abbrev lost : List Obj
-  lost = carried f cs ts m .left
-
   wished-kept : Each (λ w. times (w .who) (carried f cs ts m .left) ≡ 0) (wishes (m .roots) (m .mark) f cs ts)
   wished-kept = claims-none (wishes (m .roots) (m .mark) f cs ts) (f .objects)
 

@@ -9,7 +9,7 @@ pub mod Alters
 pub mod Outside
 pub mod Keeps
 pub mod Sim
-pub mod Fails
+pub mod NeverFail
 pub mod WasteClaims
 pub mod WasteClean
 pub mod WasteProgress

@@ -1,21 +1,20 @@
 -- The references from outside the first train, and the trains that wishes send to.
-use Prim.Native.Nat.{ℕ, zero, suc, _+_, _≤_, _<_}
+use Prim.Native.Nat.{ℕ, _+_, _≤_, _<_}
 use mathlib.Core.Bool.{Bool, true, false}
 use mathlib.Core.List.{List, [], _∷_, _++_, append-assoc}
-use mathlib.Core.Logic.{_⊎_, inl, inr}
+use mathlib.Core.Logic.{inl, inr}
 use mathlib.Core.Path.{_≡_, refl, sym, ap, subst, _∙_}
 use native.Mathlib.Omega.{arith}
-use lib.ListN.{length, getD}
-use lib.Dec.{ltb}
+use lib.ListN.{length}
 use Rattle.std.proofs.shelf.Tests.{ltb-true, ltb-false}
 use Rattle.std.specs.declared.option.Option.{Option}
 use Rattle.std.specs.declared.option.Option.the-variants.{Some, None}
 use Rattle.model.specs.Bodies.{Roots}
-use Rattle.model.specs.Trains.{Obj, Car, Train, Trains, train-objects, objects, times, among, arrival, most-trains}
+use Rattle.model.specs.Trains.{Obj, Car, Train, Trains, objects, times, among, arrival, most-trains}
 use Rattle.model.specs.Claims.{Wish, Claim, ref-wishes, object-wishes, train-wishes, trains-wishes, claim, all-to, claims}
 use Rattle.model.specs.Step.{Mark, first-to, outside, mark-wishes, wishes}
 use Rattle.model.proofs.Sound.{Marked}
-use Rattle.model.proofs.Closure.{Each, each-++, each-left, each-right, Wished, wished-left, wished-right}
+use Rattle.model.proofs.Closure.{Each, each-++, each-left, each-right, Wished, wished-right}
 use Rattle.model.proofs.Cars.{Ranks-below, arrival-below}
 
 -- with no first reference, none of the wishes is for one of the objects

@@ -5,25 +5,25 @@ use mathlib.Core.List.{List, [], _∷_, _++_}
 use mathlib.Core.Path.{_≡_, refl, sym, ap, ap₂, subst, _∙_}
 use native.Mathlib.Omega.{arith}
 use lib.ListN.{length, getD, set, length-append}
-use lib.Dec.{eqb, ltb, leb}
-use Rattle.std.proofs.shelf.Tests.{eqb-true, eqb-false, leb-true, leb-false, lt-leb, le-leb, both-ways}
+use lib.Dec.{eqb}
+use Rattle.std.proofs.shelf.Tests.{eqb-true, eqb-false, leb-false, lt-leb, both-ways}
 use Rattle.std.specs.declared.option.Option.{Option}
 use Rattle.std.specs.declared.option.Option.the-variants.{Some, None}
 use Rattle.layout.specs.Meaning.{Meaning, Lawful}
 use Rattle.remembered.specs.Meaning.{Meaning as Remembers}
-use Rattle.model.specs.Calls.{Call, make, access, step, tally, Access, link, follow, drop, put, lift, get, words, same, Refusal, root, empty, missing, shape, full, range, buffer, refused, done, value, wrote, alike, usage, report, Answer, Event, History, is-full}
-use Rattle.model.specs.Bodies.{Body, Roots, held, fresh, size, with-ref, with-value, is-root, Effect, leave, hold, point, store, Reply, object-of, with-body, reply-of, Found, on-object, unless, store-lifted, lifted, reply}
+use Rattle.model.specs.Calls.{Call, make, access, step, tally, Access, link, follow, drop, put, lift, get, words, same, full, refused, alike, Answer, History, is-full}
+use Rattle.model.specs.Bodies.{Body, Roots, held, fresh, size, with-ref, with-value, is-root, Effect, leave, hold, point, store, Reply, object-of, with-body, reply-of}
 use Rattle.model.specs.Plain.{Graph, no-entries, entry, alter-entry, with-effect, plain-make, plain, graph-of}
-use Rattle.model.specs.Trains.{Obj, Car, Train, Trains, train-objects, objects, words-in-use, times, is, one-if, inside, alter, alter-object, alter-objects, place-at, arrival, numbers, lowest-free, capacity}
+use Rattle.model.specs.Trains.{Obj, Train, Trains, train-objects, objects, words-in-use, times, is, one-if, inside, alter, alter-object, arrival, numbers, lowest-free, capacity}
 use Rattle.model.specs.Claims.{Wish}
 use Rattle.model.specs.Step.{first-to, outside}
 use Rattle.model.specs.Space.{Model, opening, all-objects, space-make, made-by, has-room, space-with, step-by, step-on, act, space-of, Use}
-use Rattle.model.specs.Reach.{Reaches, by-root, by-ref, Graph-reaches, Space-reaches}
-use Rattle.model.specs.Laws.{Plain-answer, Plain-answers, Full-exactly, Full-exactly-when, Same-reach, Answers-as-the-graph, answers-are-the-plain-graphs}
-use Rattle.model.proofs.Sound.{All, Points, Sound}
+use Rattle.model.specs.Reach.{by-root, by-ref, Graph-reaches, Space-reaches}
+use Rattle.model.specs.Laws.{Plain-answer, Plain-answers, Full-exactly, Full-exactly-when, Same-reach, answers-are-the-plain-graphs}
+use Rattle.model.proofs.Sound.{All, Sound}
 use Rattle.model.proofs.Alls.{all-right, place-at-all}
 use Rattle.model.proofs.Alters.{objects-alter, alter-all}
-use Rattle.model.proofs.Keeps.{all-map, is-other, inside-body, step-all, sound-of}
+use Rattle.model.proofs.Keeps.{all-map, inside-body, step-all, sound-of}
 
 -- an object has inside what its entry has
 abbrev pub Twin : List Body → Obj → Type 0

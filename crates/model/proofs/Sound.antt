@@ -1,12 +1,12 @@
 -- What holds of a space at every halt.
-use Prim.Native.Nat.{ℕ, zero, suc, _+_, _≤_, _<_}
-use mathlib.Core.List.{List, [], _∷_, _++_}
+use Prim.Native.Nat.{ℕ, _≤_, _<_}
+use mathlib.Core.List.{List, [], _∷_}
 use mathlib.Core.Path.{_≡_}
 use lib.ListN.{length, getD}
 use Rattle.std.specs.declared.option.Option.{Option}
 use Rattle.std.specs.declared.option.Option.the-variants.{Some, None}
 use Rattle.model.specs.Bodies.{Roots, held}
-use Rattle.model.specs.Trains.{Obj, Car, Train, Trains, train-objects, objects, words-of, words-in-use, times, obj-size, capacity, most-trains, car-words}
+use Rattle.model.specs.Trains.{Obj, Train, Trains, train-objects, objects, words-of, words-in-use, times, obj-size, capacity, most-trains, car-words}
 use Rattle.model.specs.Step.{Mark}
 use Rattle.model.specs.Space.{Model}
 

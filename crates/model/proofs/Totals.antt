@@ -1,15 +1,15 @@
 -- Numbers added up over objects: carrying and placing lose nothing and make nothing.
-use Prim.Native.Nat.{ℕ, zero, suc, _+_, _≤_, _<_}
+use Prim.Native.Nat.{ℕ, zero, suc, _+_}
 use mathlib.Core.Bool.{Bool, true, false}
 use mathlib.Core.List.{List, [], _∷_, _++_}
-use mathlib.Core.Path.{_≡_, refl, sym, ap, _∙_}
+use mathlib.Core.Path.{_≡_, refl}
 use native.Mathlib.Omega.{arith}
 use lib.ListN.{length}
-use lib.Dec.{eqb, leb}
+use lib.Dec.{eqb}
 use Rattle.std.specs.declared.option.Option.{Option}
 use Rattle.std.specs.declared.option.Option.the-variants.{Some, None}
-use Rattle.model.specs.Trains.{Obj, Car, Train, Trains, train-objects, objects, total, place, place-at, fits, with-object, opened, numbers, lowest-free}
-use Rattle.model.specs.Claims.{Taken, sort-out, take-out, then, visit, close, claim, Wish, Claim, Carried, all-to, claims}
+use Rattle.model.specs.Trains.{Obj, Train, Trains, train-objects, objects, total, place, place-at, fits, with-object, opened, numbers, lowest-free}
+use Rattle.model.specs.Claims.{Taken, sort-out, take-out, then, visit, close, claim, Wish, Claim, all-to, claims}
 use Rattle.model.specs.Step.{claimed, place-all, trim}
 
 module _ (f : Obj → ℕ) where

@@ -1,7 +1,7 @@
 -- The calls of a space, what they answer, and the history of a use.
 use Prim.Native.Nat.{ℕ}
 use mathlib.Core.Bool.{Bool, true, false}
-use mathlib.Core.List.{List, [], _∷_}
+use mathlib.Core.List.{List}
 use lib.IntN.{ℤ}
 
 -- a call on what the roots hold; of a buffer the call has its length

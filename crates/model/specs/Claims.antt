@@ -6,8 +6,7 @@ use lib.ListN.{length}
 use lib.Dec.{eqb}
 use Rattle.std.specs.declared.option.Option.{Option}
 use Rattle.std.specs.declared.option.Option.the-variants.{Some, None}
-use Rattle.model.specs.Bodies.{Roots}
-use Rattle.model.specs.Trains.{Obj, Car, Train, Trains}
+use Rattle.model.specs.Trains.{Obj, Train, Trains}
 
 -- a reference to an identity, with the rank of the train that its object is to go to
 pub record Wish : Type 0 where

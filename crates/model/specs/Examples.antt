@@ -1,12 +1,10 @@
 -- Worked examples: what the definitions give, with the product's layout.
 use Prim.Native.Nat.{ℕ, zero, suc}
-use mathlib.Core.Bool.{Bool, true, false}
-use mathlib.Core.List.{List, [], _∷_, _++_}
+use mathlib.Core.Bool.{true, false}
+use mathlib.Core.List.{List, [], _∷_}
 use mathlib.Core.Path.{_≡_}
 use lib.Chars.{codes}
 use lib.IntN.{pos, negsuc}
-use Rattle.std.specs.declared.option.Option.{Option}
-use Rattle.std.specs.declared.option.Option.the-variants.{Some, None}
 use Rattle.std.specs.declared.result.Result.the-variants.{Err}
 use Rattle.script_reader.specs.Reader.{player-of}
 use Rattle.calls.specs.Faults.{player-fault, line-fault, no-number, bad-words}

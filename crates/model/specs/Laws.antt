@@ -1,6 +1,6 @@
 -- The laws over whole uses, for every layout and every remembered set.
 use Prim.Native.Nat.{ℕ, zero, suc, _+_, _*_, _-_, _<_, _≤_}
-use mathlib.Core.Bool.{Bool, true, false}
+use mathlib.Core.Bool.{true, false}
 use mathlib.Core.List.{List, [], _∷_, _++_}
 use mathlib.Core.Path.{_≡_}
 use lib.ListN.{length, getD, take}
@@ -9,10 +9,9 @@ use Rattle.std.specs.declared.option.Option.the-variants.{Some, None}
 use Rattle.layout.specs.Meaning.{Meaning, Lawful}
 use Rattle.remembered.specs.Meaning.{Meaning as Remembers}
 use Rattle.model.specs.Calls.{Call, make, access, step, tally, root, shape, full, refused, report, Report, Answer, Event, History, is-full}
-use Rattle.model.specs.Bodies.{Body, fresh, size, held, is-root}
+use Rattle.model.specs.Bodies.{Body, fresh, size, is-root}
 use Rattle.model.specs.Plain.{Graph, graph-of, plain, entry}
-use Rattle.model.specs.Trains.{Obj, Car, Train, Trains, train-objects, objects, words-in-use, cars-in-use, numbers, lowest-free, one-of, times, inside, capacity, car-count, car-words}
-use Rattle.model.specs.Claims.{Claim}
+use Rattle.model.specs.Trains.{Trains, train-objects, objects, words-in-use, cars-in-use, numbers, lowest-free, one-of, times, inside, capacity, car-count, car-words}
 use Rattle.model.specs.Step.{Mark, place-all}
 use Rattle.model.specs.Space.{Model, space-of, Use, all-objects, carried}
 use Rattle.model.specs.Reach.{Graph-reaches, Space-reaches, Unreachable}

@@ -1,5 +1,5 @@
 -- Slots with their addresses, and which of them the remembered set is told.
-use Prim.Native.Nat.{ℕ, zero, suc, _+_, _*_}
+use Prim.Native.Nat.{ℕ, _+_, _*_}
 use mathlib.Core.Bool.{Bool, true, false, _||_, _&&_}
 use mathlib.Core.List.{List, [], _∷_, _++_}
 use lib.ListN.{length}
@@ -9,7 +9,7 @@ use Rattle.std.specs.declared.option.Option.the-variants.{Some, None}
 use Rattle.layout.specs.Meaning.{Meaning}
 use Rattle.remembered.specs.Meaning.{Told, note, forget, Row}
 use Rattle.model.specs.Bodies.{Shape, size}
-use Rattle.model.specs.Trains.{Obj, Car, Train, Trains, among, car-words}
+use Rattle.model.specs.Trains.{Obj, Train, Trains, among, car-words}
 
 -- a car's place in the row of all cars, trains one after another, and its number
 pub record Seat : Type 0 where

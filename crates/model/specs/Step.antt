@@ -1,14 +1,13 @@
 -- A step: the first car of the first train is emptied and freed.
-use Prim.Native.Nat.{ℕ, zero, suc, _+_, _*_}
-use mathlib.Core.Bool.{Bool, true, false, _||_, _&&_, cond}
+use Prim.Native.Nat.{ℕ, zero, suc, _+_}
+use mathlib.Core.Bool.{Bool, true, false, cond}
 use mathlib.Core.List.{List, [], _∷_, _++_}
-use lib.ListN.{length}
-use lib.Dec.{eqb, ltb}
+use lib.Dec.{eqb}
 use Rattle.std.specs.declared.option.Option.{Option}
 use Rattle.std.specs.declared.option.Option.the-variants.{Some, None}
 use Rattle.model.specs.Bodies.{Roots}
-use Rattle.model.specs.Trains.{Obj, Car, Train, Trains, train-objects, objects, words-of, numbers, lowest-free, place-at, arrival, among}
-use Rattle.model.specs.Claims.{Wish, ref-wishes, train-wishes, trains-wishes, Claim, Carried, claims}
+use Rattle.model.specs.Trains.{Obj, Car, Train, Trains, objects, words-of, numbers, lowest-free, place-at, arrival, among}
+use Rattle.model.specs.Claims.{Wish, ref-wishes, train-wishes, trains-wishes, Claim}
 
 -- the marked object and the rank that it is to go to
 pub record Mark : Type 0 where

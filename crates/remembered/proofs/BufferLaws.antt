@@ -1,21 +1,20 @@
 -- Laws of the buffered set.
-use Prim.Native.Nat.{ℕ, suc, zero, _+_, _-_, _<_, _≤_}
+use Prim.Native.Nat.{ℕ, _+_, _-_, _<_, _≤_}
 use mathlib.Core.Path.{_≡_, refl, sym, ap, subst, _∙_}
-use mathlib.Core.Bool.{Bool, true, false, not, _&&_, _||_, cond}
+use mathlib.Core.Bool.{Bool, true, false, not, _&&_, _||_}
 use mathlib.Core.List.{List, [], _∷_, _++_}
-use mathlib.Core.Logic.{⊎-elim, _⊎_, inl, inr}
-use native.Mathlib.Omega.{arith}
+use mathlib.Core.Logic.{⊎-elim, _⊎_}
 use lib.Dec.{eqb, ltb}
-use lib.ListN.{length, getD, set, take, length-set}
+use lib.ListN.{length, getD, set, take}
 use Rattle.std.specs.declared.option.Option.{Option}
 use Rattle.std.specs.declared.option.Option.the-variants.{Some, None}
 use Rattle.std.proofs.shelf.Lists.{take-more, take-more-set, append-nil}
-use Rattle.std.proofs.shelf.Tests.{cases-eq, cases-lt, cases-bool, eq-eqb, ne-eqb, eqb-true, and-from, and-left, and-right, and-parts, and-cases, lt-ltb, ltb-true, ltb-false, or-left, or-right, or-cases, both-ways, not-false}
+use Rattle.std.proofs.shelf.Tests.{cases-lt, cases-bool, eq-eqb, ne-eqb, and-from, and-parts, and-cases, ltb-true, ltb-false, or-left, or-right, or-cases, both-ways, not-false}
 use Rattle.remembered.specs.declared.Pair.{Pair}
 use Rattle.remembered.specs.Laws.{in-range, new-in, Keeps, KeepsOthers, Least}
 use Rattle.remembered.specs.Meaning.{note, forget, Row, Meaning, Lawful}
 use Rattle.remembered.specs.Pairs.{pair, is-pair, within, without, unless}
-use Rattle.remembered.specs.Buffers.{Buffer, buffer-in, sent, buffer-add, buffer-note, buffer-run, buffered, Ranged, with-held, Sends, BufferNoted, BufferForgot, BufferTold}
+use Rattle.remembered.specs.Buffers.{Buffer, buffer-in, sent, buffer-add, buffer-run, buffered, Ranged, with-held, Sends, BufferNoted, BufferForgot, BufferTold}
 use Rattle.remembered.proofs.CardLaws.{range-from, range-parts}
 use Rattle.remembered.proofs.PairLists.{within-push, without-append, within-without, pair-parts, pair-from}
 use Rattle.remembered.proofs.Words.{or-none}

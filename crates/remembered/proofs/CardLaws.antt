@@ -1,21 +1,20 @@
 -- Laws of the card set.
-use Prim.Native.Nat.{ℕ, suc, zero, _+_, _-_, _*_, _/_, _%_, _<_, _≤_}
+use Prim.Native.Nat.{ℕ, _+_, _-_, _*_, _/_, _%_, _<_}
 use mathlib.Core.Path.{_≡_, refl, sym, ap, subst, _∙_}
-use mathlib.Core.Bool.{Bool, true, false, not, _&&_, _||_, cond}
-use mathlib.Core.List.{List, [], _∷_}
-use mathlib.Core.Logic.{⊎-elim, _⊎_, inl, inr}
+use mathlib.Core.Bool.{Bool, true, false, not, _&&_, _||_}
+use mathlib.Core.List.{List, _∷_}
+use mathlib.Core.Logic.{⊎-elim, _⊎_}
 use native.Mathlib.Omega.{arith}
-use lib.Dec.{eqb, ltb, leb}
-use lib.ListN.{length, getD, replicate}
-use Rattle.std.proofs.shelf.Lists.{getD-replicate}
-use Rattle.std.proofs.shelf.Tests.{cases-eq, cases-lt, cases-bool, eq-eqb, ne-eqb, eqb-true, and-from, and-left, and-right, and-parts, lt-ltb, ltb-true, le-ltb, le-leb, lt-leb, or-left, or-right, or-cases, both-ways, cond-true, cond-false}
+use lib.Dec.{eqb, ltb}
+use lib.ListN.{replicate}
+use Rattle.std.proofs.shelf.Tests.{cases-bool, eq-eqb, ne-eqb, eqb-true, and-from, and-left, and-right, and-parts, lt-ltb, ltb-true, or-left, or-right, or-cases}
 use Rattle.remembered.specs.declared.Pair.{Pair}
 use Rattle.remembered.specs.Bits.{bit-in, bit, Cleared}
 use Rattle.remembered.specs.Laws.{in-range}
 use Rattle.remembered.specs.Meaning.{note, forget, Lawful}
 use Rattle.remembered.specs.Pairs.{pair, is-pair, within, without, unless}
 use Rattle.remembered.specs.Cards.{card-in, card-note, card-run, card-has, marked, CardNoted, CardForgot, CardTold}
-use Rattle.remembered.proofs.PairLists.{eqb-sym, swap-and, and-none, within-without, bool-ext, pair-parts, pair-from}
+use Rattle.remembered.proofs.PairLists.{swap-and, and-none, within-without, bool-ext, pair-parts, pair-from}
 use Rattle.remembered.proofs.Words.{or-none, bit-zero, zeros, cleared-bits}
 
 pub range-from : (c a : ℕ) → c < 64 → a < 8192 → in-range c a ≡ true

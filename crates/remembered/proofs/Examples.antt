@@ -1,12 +1,10 @@
 -- Small rows worked out.
-use Prim.Native.Nat.{ℕ}
 use mathlib.Core.Path.{_≡_, refl}
-use mathlib.Core.List.{List, [], _∷_}
-use Rattle.remembered.specs.Meaning.{Told, note, forget, pairs-of}
-use Rattle.remembered.specs.Pairs.{within, without}
-use Rattle.remembered.specs.Cards.{card-run, card-has}
-use Rattle.remembered.specs.Slots.{slot-run, slot-has}
-use Rattle.remembered.specs.Buffers.{buffer-run, buffered, sent}
+use mathlib.Core.List.{[], _∷_}
+use Rattle.remembered.specs.Meaning.{note, forget, pairs-of}
+use Rattle.remembered.specs.Cards.{card-has}
+use Rattle.remembered.specs.Slots.{slot-has}
+use Rattle.remembered.specs.Buffers.{buffered}
 
 pub one-card : pairs-of (card-has (note 3 100 ∷ [])) 3 ≡ 16
 one-card = refl

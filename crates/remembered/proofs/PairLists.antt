@@ -1,15 +1,15 @@
 -- Laws of lists of pairs.
-use Prim.Native.Nat.{ℕ, suc, zero, _+_, _-_, _*_, _/_, _%_, _<_, _≤_}
-use mathlib.Core.Path.{_≡_, refl, sym, ap, subst, _∙_}
+use Prim.Native.Nat.{ℕ, suc, _+_, _-_}
+use mathlib.Core.Path.{_≡_, refl, sym, ap, _∙_}
 use mathlib.Core.Bool.{Bool, true, false, not, _&&_, _||_, cond}
 use mathlib.Core.List.{List, [], _∷_, _++_}
-use mathlib.Core.Logic.{⊎-elim, _⊎_, inl, inr}
+use mathlib.Core.Logic.{⊎-elim, _⊎_}
 use native.Mathlib.Omega.{arith}
 use lib.Dec.{eqb}
 use lib.ListN.{length}
-use Rattle.std.proofs.shelf.Tests.{cases-eq, cases-lt, cases-bool, eq-eqb, ne-eqb, eqb-true, eqb-false, and-from, and-left, and-right, and-parts, not-from-true, not-from-false, cond-true, cond-false}
+use Rattle.std.proofs.shelf.Tests.{cases-eq, eq-eqb, ne-eqb, eqb-true, and-from, and-left, and-parts, cond-true, cond-false}
 use Rattle.remembered.specs.declared.Pair.{Pair}
-use Rattle.remembered.specs.Pairs.{pair, is-pair, within, without, unless, number-of}
+use Rattle.remembered.specs.Pairs.{is-pair, within, without, unless, number-of}
 
 pub eqb-sym : (m n : ℕ) → eqb m n ≡ eqb n m
 eqb-sym m n = ⊎-elim (λ e. eq-eqb m n e ∙ sym (eq-eqb n m (sym e))) (λ ne. ne-eqb m n ne ∙ sym (ne-eqb n m (λ e. ne (sym e)))) (cases-eq m n)

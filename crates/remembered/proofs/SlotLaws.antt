@@ -3,21 +3,20 @@ use Prim.Native.Nat.{ℕ, suc, zero, _+_, _-_, _*_, _/_, _%_, _<_, _≤_}
 use mathlib.Core.Path.{_≡_, refl, sym, ap, subst, _∙_}
 use mathlib.Core.Bool.{Bool, true, false, not, _&&_, _||_, cond}
 use mathlib.Core.List.{List, [], _∷_}
-use mathlib.Core.Logic.{⊎-elim, _⊎_, inl, inr}
+use mathlib.Core.Logic.{⊎-elim, _⊎_}
 use native.Mathlib.Omega.{arith}
 use lib.Dec.{eqb, ltb, leb}
 use lib.ListN.{length, getD, set, replicate}
 use Rattle.std.proofs.shelf.Lists.{getD-set-same, getD-set-other}
-use Rattle.std.proofs.shelf.Tests.{cases-eq, cases-lt, cases-bool, eq-eqb, ne-eqb, eqb-true, and-from, and-left, and-right, and-parts, lt-ltb, ltb-true, le-ltb, ltb-false, le-leb, lt-leb, or-left, or-right, or-cases, or-from, or-parts, both-ways, not-true, not-false, and-cases, cond-true, cond-false}
-use Rattle.remembered.specs.declared.Pair.{Pair}
+use Rattle.std.proofs.shelf.Tests.{cases-eq, cases-bool, eq-eqb, ne-eqb, eqb-true, and-from, and-left, and-right, and-parts, ltb-true, le-ltb, ltb-false, or-left, or-right, or-cases, or-from, or-parts, both-ways, not-true, not-false, and-cases, cond-true, cond-false}
 use Rattle.remembered.specs.Bits.{bit-in, bit, Marked, Cleared}
 use Rattle.remembered.specs.Laws.{in-range, new-in}
-use Rattle.remembered.specs.Meaning.{note, forget, Lawful, count}
-use Rattle.remembered.specs.Pairs.{pair, is-pair, within, without, unless, number-of}
-use Rattle.remembered.specs.Slots.{Slots, slot-in, slot-add, slot-note, slot-forget, slot-run, slot-has, kept, slot-pairs, kept-of, places, total, SlotNoted, SlotForgot, SlotStands}
+use Rattle.remembered.specs.Meaning.{note, forget, Lawful}
+use Rattle.remembered.specs.Pairs.{pair, is-pair, within}
+use Rattle.remembered.specs.Slots.{Slots, slot-in, slot-add, slot-note, slot-forget, slot-run, slot-has, kept, slot-pairs, kept-of, places, SlotNoted, SlotForgot, SlotStands}
 use Rattle.remembered.proofs.CardLaws.{range-from, range-parts}
 use Rattle.remembered.proofs.Counts.{count-same, count-none, count-more, total-more, total-less, total-part, total-none}
-use Rattle.remembered.proofs.PairLists.{eqb-sym, swap-and, and-none, within-without, bool-ext, pair-parts, pair-from, number-without, length-without}
+use Rattle.remembered.proofs.PairLists.{eqb-sym, swap-and, and-none, within-without, bool-ext, pair-from, number-without, length-without}
 use Rattle.remembered.proofs.Words.{or-none, bit-zero, zeros, cleared-bits}
 
 -- one bit more is one pair more

@@ -1,20 +1,20 @@
 -- Laws of the bits of words.
 use Prim.Native.Nat.{ℕ, suc, zero, _+_, _-_, _*_, _/_, _%_, _<_, _≤_, _^_, max}
-use mathlib.Core.Path.{_≡_, refl, sym, ap, subst, _∙_}
+use mathlib.Core.Path.{_≡_, refl, sym, ap, _∙_}
 use mathlib.Core.Bool.{Bool, true, false, not, _&&_, _||_, cond}
 use mathlib.Core.List.{List}
-use mathlib.Core.Logic.{⊎-elim, _≢_}
+use mathlib.Core.Logic.{⊎-elim}
 use native.Mathlib.Omega.{arith}
 use native.Mathlib.Nat.{pow-suc, mul-comm}
 use lib.Bits.{bitOr, or-step, or-shr}
 use lib.Count.{trailingZeros, under}
 use lib.Dec.{eqb, leb, ltb}
 use lib.ListN.{length, getD, set, replicate}
-use Rattle.std.proofs.shelf.Bits.{shr-shr, shr-le, one-shl, pow-pos, mul-add-lt}
+use Rattle.std.proofs.shelf.Bits.{shr-shr, shr-le, mul-add-lt}
 use Rattle.std.proofs.shelf.Lists.{getD-set-same, getD-set-other}
-use Rattle.std.proofs.shelf.Tests.{cases-eq, cases-lt, eq-eqb, ne-eqb, and-from, and-left, and-right, eqb-true, eqb-false, cases-bool, both-ways, cond-true, cond-false, le-leb, lt-leb, lt-ltb, le-ltb}
+use Rattle.std.proofs.shelf.Tests.{cases-eq, cases-lt, eq-eqb, ne-eqb, and-from, and-left, and-right, both-ways, cond-true, cond-false, le-leb, lt-leb, lt-ltb, le-ltb}
 use Rattle.remembered.specs.Bits.{bit, bit-in, Marked, Cleared, Next}
-use Rattle.std.specs.declared.option.Option.the-variants.{Some, None}
+use Rattle.std.specs.declared.option.Option.the-variants.{Some}
 
 pub bit-first : (n : ℕ) → bit n 0 ≡ eqb (n % 2) 1
 unfolding bit

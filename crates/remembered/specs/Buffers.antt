@@ -7,7 +7,7 @@ use lib.Dec.{ltb}
 use lib.ListN.{length}
 use Rattle.remembered.specs.declared.Pair.{Pair}
 use Rattle.remembered.specs.Laws.{new-in}
-use Rattle.remembered.specs.Meaning.{Told, note, forget, Row, Meaning}
+use Rattle.remembered.specs.Meaning.{note, forget, Row, Meaning}
 use Rattle.remembered.specs.Pairs.{pair, within, without}
 
 -- what the set below was told, and the pairs held, the oldest first

@@ -1,13 +1,13 @@
 -- What the card set does.
 use Prim.Native.Nat.{ℕ, _*_, _/_}
-use mathlib.Core.Bool.{Bool, true, false, not, _&&_, _||_}
+use mathlib.Core.Bool.{Bool, false, not, _&&_, _||_}
 use mathlib.Core.List.{List, [], _∷_}
 use mathlib.Core.Path.{_≡_}
 use lib.Dec.{eqb}
 use Rattle.remembered.specs.declared.Pair.{Pair}
 use Rattle.remembered.specs.Bits.{bit-in}
 use Rattle.remembered.specs.Laws.{in-range, new-in}
-use Rattle.remembered.specs.Meaning.{Told, note, forget, Row, Meaning}
+use Rattle.remembered.specs.Meaning.{note, forget, Row, Meaning}
 use Rattle.remembered.specs.Pairs.{pair, within, without, unless}
 
 -- each address in a marked card is paired; a card is listed by its car and its number

@@ -8,7 +8,7 @@ use lib.ListN.{length, getD}
 use Rattle.remembered.specs.declared.Pair.{Pair}
 use Rattle.remembered.specs.Bits.{bit-in}
 use Rattle.remembered.specs.Laws.{in-range, new-in}
-use Rattle.remembered.specs.Meaning.{Told, note, forget, Row, Meaning, count}
+use Rattle.remembered.specs.Meaning.{note, forget, Row, Meaning, count}
 use Rattle.remembered.specs.Pairs.{pair, within, without, number-of}
 
 -- the pairs kept, and which cars are overflown

@@ -1,7 +1,7 @@
 // Bits of a row of 64-bit words, found a word at a time.
 ghost use mathlib.Core.Path.{_≡_};
-ghost use Prim.Native.Nat.{ℕ, _+_, _-_, _*_, _/_, _%_, _<_, _≤_};
-ghost use lib.ListN.{length, getD, set};
+ghost use Prim.Native.Nat.{_+_, _-_, _*_, _/_, _%_, _<_, _≤_};
+ghost use lib.ListN.{length, set};
 ghost use Rattle.remembered.specs.Bits.{bit, bit-in, Next, Marked, Cleared};
 
 // Whether bit `k` is set, counted from the word at `base`.

@@ -1,11 +1,11 @@
 // The buffered set: holds up to 16 pairs above any remembered set.
 ghost use mathlib.Core.Path.{_≡_};
-ghost use mathlib.Core.Bool.{Bool, true, false, not, _&&_, _||_};
-ghost use mathlib.Core.List.{List, [], _∷_, _++_};
+ghost use mathlib.Core.Bool.{Bool, true, false, not, _||_};
+ghost use mathlib.Core.List.{[], _∷_, _++_};
 ghost use Prim.Native.Nat.{ℕ, _+_, _-_, _<_, _≤_};
-ghost use lib.ListN.{length, getD, set, take, replicate};
+ghost use lib.ListN.{length, set, take};
 ghost use Rattle.remembered.specs.Laws.{new-in, Least};
-ghost use Rattle.remembered.specs.Pairs.{pair, is-pair, within, without};
+ghost use Rattle.remembered.specs.Pairs.{pair, is-pair, without};
 ghost use Rattle.remembered.specs.Buffers.{buffered, Ranged, with-held, Sends, BufferNoted, BufferForgot, BufferTold};
 use crate::Pair;
 use crate::RememberedSet;

@@ -1,8 +1,6 @@
 // The card set: for each car, which of the 512 cards of 16 words are marked.
 ghost use mathlib.Core.Path.{_≡_};
-ghost use mathlib.Core.Bool.{Bool, true, false};
-ghost use mathlib.Core.List.{[]};
-ghost use Prim.Native.Nat.{ℕ, _+_, _*_, _/_, _<_, _≤_};
+ghost use Prim.Native.Nat.{_*_, _/_, _<_};
 ghost use lib.ListN.{length, replicate};
 ghost use Rattle.remembered.specs.Cards.{card-has, marked, CardNoted, CardForgot, CardTold};
 ghost use Rattle.remembered.specs.Laws.{new-in};

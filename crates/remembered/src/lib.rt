@@ -1,7 +1,7 @@
 // Remembered sets: which addresses may hold slots that hold objects of which car.
 ghost use mathlib.Core.Path.{_≡_};
 ghost use mathlib.Core.Bool.{Bool, true, false};
-ghost use mathlib.Core.List.{List, [], _∷_};
+ghost use mathlib.Core.List.{[], _∷_};
 ghost use Prim.Native.Nat.{ℕ, _<_};
 ghost use Rattle.remembered.specs.Laws.{Keeps, KeepsOthers, Least};
 ghost use Rattle.remembered.specs.Meaning.{Told, Row, Meaning, Lawful};

@@ -1,12 +1,10 @@
 // The slot set: up to 2,048 pairs, and the cars that overflowed when it was full.
 ghost use mathlib.Core.Path.{_≡_};
-ghost use mathlib.Core.Bool.{Bool, true, false, not, _&&_, _||_};
-ghost use mathlib.Core.List.{[]};
+ghost use mathlib.Core.Bool.{true, false, not, _&&_, _||_};
 ghost use Prim.Native.Nat.{ℕ, _+_, _-_, _*_, _/_, _<_, _≤_};
 ghost use lib.Dec.{eqb, ltb};
 ghost use lib.ListN.{length, getD, set, replicate};
-ghost use Rattle.remembered.specs.Bits.{Marked, Cleared};
-ghost use Rattle.remembered.specs.Laws.{in-range, new-in};
+ghost use Rattle.remembered.specs.Laws.{new-in};
 ghost use Rattle.remembered.specs.Slots.{slot-has, slot-run, slot-pairs, kept, kept-of, places, SlotNoted, SlotForgot, SlotStands};
 use crate::RememberedSet;
 use crate::bits::bit_at;

@@ -2,9 +2,9 @@
 use mathlib.Core.Path.{_≡_, refl, sym, ap, _∙_}
 use mathlib.Core.Bool.{Bool, true, false, not, cond}
 use mathlib.Core.List.{List, [], _∷_}
-use mathlib.Core.Logic.{_⊎_, inl, inr, ⊎-elim}
-use Prim.Native.Nat.{ℕ, zero, suc, _+_, _-_, _<_, _≤_, min}
-use native.Mathlib.Nat.{add-zero, zero-add, suc-add, add-suc}
+use mathlib.Core.Logic.{_⊎_, ⊎-elim}
+use Prim.Native.Nat.{ℕ, zero, suc, _+_, _-_, _<_, _≤_}
+use native.Mathlib.Nat.{zero-add, suc-add}
 use native.Mathlib.Omega.{arith}
 use lib.Dec.{eqb}
 use lib.ListN.{length, getD, take, drop, length-drop}
@@ -13,7 +13,7 @@ use Rattle.std.specs.declared.option.Option.{Option}
 use Rattle.std.specs.declared.option.Option.the-variants.{Some, None}
 use Rattle.std.proofs.shelf.Lists.{drop-more, drop-all, drop-drop}
 use Rattle.script_reader.specs.Lines.{onto, parted, lines, reach}
-use Rattle.script_reader.specs.Words.{cut, Word, placed, words, word-no, word-from}
+use Rattle.script_reader.specs.Words.{cut, Word, placed, word-no}
 
 -- how many lines begin in these bytes, inside a line or at the start of one
 abbrev pub further : Bool → List ℕ → ℕ

@@ -1,7 +1,7 @@
 -- Lines read by the definitions alone.
 use mathlib.Core.Path.{_≡_, refl}
 use lib.Chars.{codes}
-use lib.IntN.{pos, negsuc}
+use lib.IntN.{negsuc}
 use Rattle.std.specs.declared.result.Result.the-variants.{Ok, Err}
 use Rattle.calls.specs.declared.call.Call.the-variants as call
 use Rattle.calls.specs.Faults.{bad-words, no-number, line-fault, player-fault}

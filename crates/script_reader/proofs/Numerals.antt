@@ -1,19 +1,18 @@
 -- What the loop that reads a number keeps.
-use mathlib.Core.Path.{_≡_, refl, sym, ap, _∙_}
+use mathlib.Core.Path.{_≡_, ap, _∙_}
 use mathlib.Core.Bool.{Bool, true, false, cond, _&&_}
-use mathlib.Core.List.{List, [], _∷_}
-use Prim.Native.Nat.{ℕ, zero, suc, _+_, _-_, _*_, _<_, _≤_}
-use native.Mathlib.Omega.{arith}
-use lib.Dec.{eqb, leb}
+use mathlib.Core.List.{List, _∷_}
+use Prim.Native.Nat.{ℕ, _+_, _-_, _*_, _<_, _≤_}
+use lib.Dec.{leb}
 use lib.ListN.{length, getD, drop}
-use borrow.Author.Tests.{eq-eqb, ne-eqb}
+use borrow.Author.Tests.{eq-eqb}
 use Rattle.std.specs.declared.option.Option.{Option}
 use Rattle.std.specs.declared.option.Option.the-variants.{Some, None}
 use Rattle.std.specs.Holes.{between}
 use Rattle.std.proofs.shelf.Lists.{drop-more, drop-all}
 use Rattle.std.proofs.shelf.Parts.{first-rest}
-use Rattle.std.proofs.shelf.Tests.{le-leb, lt-leb, and-left, and-right, and-from, not-from-false}
-use Rattle.calls.specs.Numbers.{is-digit, onward, no-leading-zero, natural-of, plus, minus, integer-of}
+use Rattle.std.proofs.shelf.Tests.{le-leb, lt-leb, and-left, and-right, and-from}
+use Rattle.calls.specs.Numbers.{is-digit, onward, natural-of, plus, minus, integer-of}
 
 -- whether the number so far goes on with this byte
 abbrev goes : ℕ → ℕ → Bool

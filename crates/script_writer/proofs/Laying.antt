@@ -1,12 +1,10 @@
 -- Bytes laid into a buffer, one piece behind another.
 use mathlib.Core.Path.{_≡_, refl, sym, ap, _∙_}
 use mathlib.Core.List.{List, [], _∷_, _++_, append-assoc}
-use Prim.Native.Nat.{ℕ, zero, suc, _+_, _-_, _*_, _/_, _%_, _^_, _<_, _≤_}
+use Prim.Native.Nat.{ℕ, zero, suc, _+_, _-_, _/_, _%_, _^_, _<_, _≤_}
 use native.Mathlib.Omega.{arith}
-use native.Mathlib.Nat.{add-zero, add-assoc}
-use borrow.Author.Needs.{needs}
+use native.Mathlib.Nat.{add-zero}
 use lib.ListN.{length, set, take, drop, length-append, length-drop, take-append-drop}
-use Rattle.std.specs.Written.{decimal}
 use borrow.Rule.Slice.PartMut.{putMid}
 use Rattle.std.proofs.shelf.Parts.{putMid-paste}
 use Rattle.std.proofs.shelf.Lists.{take-all, take-at, drop-at, drop-drop, take-set-le, drop-set, length-push, length-take-le}

@@ -1,5 +1,5 @@
 use Rattle.model.proofs.Sim.{graph-law}
-use Rattle.model.proofs.Fails.{never-fail-law}
+use Rattle.model.proofs.NeverFail.{never-fail-law}
 use Rattle.model.proofs.WasteLaws.{waste-near-the-front, waste-leaves, words-of-the-reachable-and-the-new}
 use Rattle.model.proofs.Remember.{overlooked-law}
 use Rattle.model.proofs.laws_of.Needs as need

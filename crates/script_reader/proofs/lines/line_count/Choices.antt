@@ -1,6 +1,6 @@
 use mathlib.Core.Path.{_≡_}
 use Prim.Native.Nat.{_+_, _≤_}
-use lib.ListN.{length, drop}
+use lib.ListN.{drop}
 use Rattle.script_reader.proofs.Cuts.{further}
 use Rattle.script_reader.proofs.lines.line_count.Given as given
 

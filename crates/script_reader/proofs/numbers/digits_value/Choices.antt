@@ -1,6 +1,6 @@
 use mathlib.Core.Path.{_≡_}
 use Prim.Native.Nat.{_≤_}
-use lib.ListN.{length, drop}
+use lib.ListN.{drop}
 use Rattle.calls.specs.Numbers.{onward}
 use Rattle.script_reader.proofs.numbers.digits_value.Given as given
 

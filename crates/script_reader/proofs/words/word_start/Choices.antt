@@ -1,5 +1,5 @@
 use mathlib.Core.Path.{_≡_}
-use Prim.Native.Nat.{_+_, _-_, _≤_}
+use Prim.Native.Nat.{_-_, _≤_}
 use lib.ListN.{length, drop}
 use Rattle.script_reader.proofs.Cuts.{nth-from}
 use Rattle.script_reader.proofs.words.word_start.Given as given

@@ -1,6 +1,5 @@
 use mathlib.Core.Path.{_≡_}
-use Prim.Native.Nat.{_-_, _<_, _≤_, _^_}
-use lib.ListN.{length}
+use Prim.Native.Nat.{_-_, _≤_}
 use Rattle.script_writer.specs.Writer.{laid}
 use Rattle.script_writer.proofs.Laying.{spell}
 use Rattle.script_writer.proofs.writer.put_number.Given as given

@@ -1,5 +1,5 @@
 use mathlib.Core.Path.{_≡_}
-use Prim.Native.Nat.{_+_, _^_, _<_, _≤_}
+use Prim.Native.Nat.{_+_, _^_, _<_}
 use lib.ListN.{length}
 use Rattle.calls.specs.Numbers.{digits-of}
 use Rattle.script_writer.proofs.writer.width.Given as given

@@ -3,7 +3,6 @@ use mathlib.Core.Path.{_≡_, refl, sym, ap, subst, _∙_}
 use native.Mathlib.Omega.{arith}
 use lib.ListN.{length, take, length-set}
 use Rattle.remembered.specs.Buffers.{Ranged}
-use Rattle.remembered.specs.Pairs.{without}
 use Rattle.remembered.proofs.BufferLaws.{drop-skip, drop-keep, ranged-without}
 use Rattle.remembered.proofs.buffered.Buffered.drop_held.Needs as need
 use Rattle.remembered.proofs.buffered.Buffered.drop_held.Needs.{then-p-car, else-p-car}

@@ -1,5 +1,5 @@
-use Prim.Native.Nat.{_<_, _≤_, _+_}
-use mathlib.Core.Path.{_≡_, refl, sym, ap, subst, _∙_}
+use Prim.Native.Nat.{_≤_}
+use mathlib.Core.Path.{_≡_}
 use native.Mathlib.Omega.{arith}
 use lib.ListN.{length, take}
 use Rattle.remembered.specs.Buffers.{with-held}

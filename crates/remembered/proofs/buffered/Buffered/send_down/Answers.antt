@@ -1,8 +1,7 @@
-use Prim.Native.Nat.{_<_, _≤_, _+_}
-use mathlib.Core.Path.{_≡_, refl, sym, ap, subst, _∙_}
+use Prim.Native.Nat.{_≤_}
+use mathlib.Core.Path.{_≡_, refl, subst}
 use native.Mathlib.Omega.{arith}
-use lib.ListN.{length, take, getD}
-use Rattle.remembered.specs.Buffers.{Sends}
+use lib.ListN.{length, getD}
 use Rattle.remembered.proofs.BufferLaws.{P0, sends-none, sends-more, ranged-none}
 use Rattle.remembered.proofs.buffered.Buffered.send_down.Needs as need
 

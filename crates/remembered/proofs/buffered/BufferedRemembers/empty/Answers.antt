@@ -1,8 +1,7 @@
-use mathlib.Core.Path.{_≡_, refl, sym, ap, subst, _∙_}
+use mathlib.Core.Path.{_≡_, sym, ap, subst, _∙_}
 use mathlib.Core.Bool.{_||_, false}
 use mathlib.Core.List.{[]}
 use lib.ListN.{take}
-use Rattle.remembered.specs.Pairs.{within}
 use Rattle.remembered.specs.Buffers.{with-held}
 use Rattle.remembered.proofs.BufferLaws.{buffer-starts}
 use Rattle.remembered.proofs.buffered.BufferedRemembers.empty.Needs as need

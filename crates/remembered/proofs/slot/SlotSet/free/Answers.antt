@@ -1,7 +1,6 @@
-use Prim.Native.Nat.{_+_}
-use mathlib.Core.Path.{_≡_, _∙_, ap}
+use mathlib.Core.Path.{_≡_, _∙_}
 use native.Mathlib.Omega.{arith}
-use lib.ListN.{length, getD, length-set}
+use lib.ListN.{length, length-set}
 use Rattle.remembered.proofs.SlotLaws.{cleared-kept, counted-less, places-less, places-part, lowered, freed-pairs}
 use Rattle.remembered.proofs.slot.SlotSet.free.Needs as need
 

@@ -1,7 +1,6 @@
-use Prim.Native.Nat.{_+_}
 use mathlib.Core.Path.{_≡_, _∙_}
 use native.Mathlib.Omega.{arith}
-use lib.ListN.{length, getD, length-set}
+use lib.ListN.{length, length-set}
 use Rattle.remembered.proofs.SlotLaws.{new-parts, marked-kept, counted-more, places-more, places-part}
 use Rattle.remembered.proofs.slot.SlotSet.keep.Needs as need
 

@@ -1,4 +1,4 @@
-use mathlib.Core.Path.{_≡_, _∙_, sym, ap, refl, subst}
+use mathlib.Core.Path.{_∙_, sym, ap, refl, subst}
 use Prim.Native.Nat.{ℕ}
 use mathlib.Core.List.{List, []}
 use native.Mathlib.Omega.{arith}

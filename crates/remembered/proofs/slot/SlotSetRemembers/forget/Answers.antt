@@ -1,5 +1,4 @@
-use Prim.Native.Nat.{ℕ, _≤_}
-use mathlib.Core.Path.{_∙_, sym, ap}
+use Prim.Native.Nat.{_≤_}
 use native.Mathlib.Omega.{arith}
 use Rattle.remembered.proofs.SlotLaws.{none-kept, none-over, kept-outside, freed-pairs}
 use Rattle.remembered.proofs.slot.SlotSetRemembers.forget.Needs as need

@@ -1,22 +1,20 @@
 -- A step always finds a free car and copies little, and nothing that is held is lost.
-use Prim.Native.Nat.{ℕ, zero, suc, _+_, _≤_, _<_}
-use mathlib.Core.List.{List, [], _∷_, _++_}
-use mathlib.Core.Path.{_≡_, refl, sym, ap, subst, _∙_}
+use Prim.Native.Nat.{ℕ, _+_, _≤_}
+use mathlib.Core.List.{[], _∷_, _++_}
+use mathlib.Core.Path.{_≡_, refl, sym, subst}
 use native.Mathlib.Omega.{arith}
 use lib.ListN.{getD}
 use Rattle.std.specs.declared.option.Option.{Option}
 use Rattle.std.specs.declared.option.Option.the-variants.{Some, None}
 use Rattle.layout.specs.Meaning.{Meaning, Lawful}
 use Rattle.remembered.specs.Meaning.{Meaning as Remembers}
-use Rattle.model.specs.Calls.{Call, make, access, step, tally, Access, report, Report, Answer, History}
-use Rattle.model.specs.Bodies.{Body, fresh, is-root, Reply, reply-of}
-use Rattle.model.specs.Trains.{Obj, Car, Train, Trains, train-objects, objects, words-of, inside, times, car-words}
+use Rattle.model.specs.Calls.{Call, make, access, step, tally, History}
+use Rattle.model.specs.Trains.{Car, Train, Trains, train-objects, objects, words-of, times, car-words}
 use Rattle.model.specs.Claims.{Wish}
 use Rattle.model.specs.Step.{first-to, outside, wishes}
-use Rattle.model.specs.Space.{Model, all-objects, carried, space-make, has-room, step-by, step-on, act, space-of, Use}
-use Rattle.model.specs.Reach.{Space-reaches}
-use Rattle.model.specs.Laws.{Free-car, moment, Copies-few, Copies-few-if-step, Copies-few-each, Steps-never-fail, steps-never-fail}
-use Rattle.model.proofs.Sound.{All, Sized, Filled, Sound-at, Sound}
+use Rattle.model.specs.Space.{Model, all-objects, step-by, step-on, act, space-of, Use}
+use Rattle.model.specs.Laws.{Free-car, moment, Copies-few, Copies-few-if-step, Copies-few-each, steps-never-fail}
+use Rattle.model.proofs.Sound.{Sized, Filled, Sound-at}
 use Rattle.model.proofs.Alls.{all-left}
 use Rattle.model.proofs.Cars.{few-cars, free-car, free-at-moment, copied-few}
 use Rattle.model.proofs.Outside.{claims-below, wishes-below}
