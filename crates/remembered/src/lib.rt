@@ -37,18 +37,23 @@ pub trait RememberedSet: Sized {
 
     ghost told: { Self → Row → Type 0 };
 
+    // cars below 64 and addresses below 8,192 only
     law bounded: { (s : Self) (c a : ℕ) → has s c a ≡ true → (c < 64) × (a < 8192) };
 
+    // after a note a set has all it had, and the pair if it is in range
     law keeps: { (s t : Self) (c a : ℕ) → noted s c a t → Keeps (has s) (has t) };
 
     law gains: { (s t : Self) (c a : ℕ) → noted s c a t → c < 64 → a < 8192 → has t c a ≡ true };
 
+    // after a forget all pairs of other cars are still there
     law others: { (s t : Self) (c : ℕ) → forgot s c t → KeepsOthers c (has s) (has t) };
 
+    // and the same of rows: a set that was told a row has the pairs which the row means
     law lawful: { Lawful means };
 
     law agrees: { (s : Self) (r : Row) → told s r → (c a : ℕ) → has s c a ≡ means r c a };
 
+    // each call adds itself to the row
     law tells: { (s t : Self) (c a : ℕ) (r : Row) → noted s c a t → told s r → told t (noting c a ∷ r) };
 
     law forgets: { (s t : Self) (c : ℕ) (r : Row) → forgot s c t → told s r → told t (forgetting c ∷ r) };
