@@ -9,7 +9,7 @@ use Rattle.std.specs.declared.option.Option.the-variants.{Some, None}
 use Rattle.model.specs.Trains.{Obj, Train, Trains, train-objects, objects, place, place-at, fits, with-object, opened, numbers, lowest-free}
 use Rattle.model.specs.Claims.{Taken, sort-out, take-out, then, visit, close, claim, Wish, Claim, all-to, claims}
 use Rattle.model.specs.Step.{claimed, place-all}
-use Rattle.model.proofs.Sound.{All}
+use Rattle.model.specs.Sound.{All}
 
 module _ (P : Obj → Type 0) where
   pub all-++ : (xs ys : List Obj) → All P xs → All P ys → All P (xs ++ ys)

@@ -10,7 +10,7 @@ use Rattle.std.specs.declared.option.Option.{Option}
 use Rattle.std.specs.declared.option.Option.the-variants.{Some, None}
 use Rattle.model.specs.Bodies.{Body, size, with-ref, with-value}
 use Rattle.model.specs.Trains.{Obj, Train, Trains, train-objects, objects, total, obj-size, words-of, times, is, alter-object, alter-objects, alter-train, alter}
-use Rattle.model.proofs.Sound.{All, Filled, All-filled, Standing, first-objects}
+use Rattle.model.specs.Sound.{All, Filled, All-filled, Standing, first-objects}
 
 pub ref-size : (i : ℕ) (h : Option ℕ) (b : Body) → size (with-ref i h b) ≡ size b
 ref-size i h b = omega (arith, length-set (b .refs) i h)

@@ -16,7 +16,7 @@ use Rattle.model.specs.Claims.{Wish, Claim, Carried, claims}
 use Rattle.model.specs.Step.{claimed, copied-of, place-all, trim}
 use Rattle.model.specs.Space.{Model, carried}
 use Rattle.model.specs.Laws.{moment, Free-car}
-use Rattle.model.proofs.Sound.{All, Sized, Filled, All-filled, Standing}
+use Rattle.model.specs.Sound.{All, Sized, Filled, All-filled, Standing}
 use Rattle.model.proofs.Totals.{total-++, claims-total, place-all-total}
 use Rattle.model.proofs.Alls.{claims-all, claimed-all-take}
 use Rattle.model.proofs.Distinct.{lowest-unused}
@@ -173,7 +173,7 @@ length-numbers (t ∷ ts) = omega (arith, length-append (car-numbers t) (numbers
 pub free-car : (ts : Trains) → cars-in-use ts ≤ 57 → Free-car ts
 free-car ts h =
     let l : length (numbers ts) < 64 = omega (arith, length-numbers ts) in
-    record { few = h; there = lowest-unused (numbers ts) l .0; unused = lowest-unused (numbers ts) l .1 }
+    record { few = h; free = lowest-free (numbers ts); there = lowest-unused (numbers ts) l .0; unused = lowest-unused (numbers ts) l .1 }
 
 -- A step copies no more than a car's words, and has a free car at each moment.
 

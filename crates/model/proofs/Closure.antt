@@ -14,7 +14,7 @@ use Rattle.model.specs.Trains.{Obj, Train, Trains, train-objects, objects, tot
 use Rattle.model.specs.Claims.{sort-out, take-out, then, visit, close, claim, Wish, Claim, all-to, claims, ref-wishes, object-wishes, train-wishes, trains-wishes}
 use Rattle.model.specs.Step.{claimed, out-of, is-zero}
 use Rattle.model.proofs.Totals.{take-out-total, visit-total, close-total, claim-total, claims-total}
-use Rattle.model.proofs.Sound.{All, Points}
+use Rattle.model.specs.Sound.{All, Points}
 use Rattle.model.proofs.Alls.{all-++, all-left, all-right}
 
 pub length-total : (os : List Obj) → total (λ o. 1) os ≡ length os

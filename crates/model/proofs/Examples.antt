@@ -4,17 +4,20 @@ use mathlib.Core.Bool.{Bool, true, false}
 use mathlib.Core.Path.{_≡_, refl}
 use native.Mathlib.Omega.{arith}
 use Rattle.std.proofs.shelf.Tests.{lt-leb}
+use Rattle.calls.specs.Answers.{refusal-number}
+use Rattle.calls.specs.declared.answer.Refusal.{Refusal as Told-refusal}
+use Rattle.calls.specs.declared.answer.Refusal.the-variants.{Root, Empty, Missing, Shape, Full, Range, Buffer}
 use Rattle.layout.specs.Product.{product-meaning}
 use Rattle.layout.specs.Pair.{pair-lawful}
 use Rattle.layout.specs.Record.{record-meaning, record-coding, record-lawful, record-coded}
 use Rattle.layout.specs.Array.{array-meaning, array-coding, array-lawful}
 use Rattle.remembered.specs.Slots.{slot-has}
 use Rattle.layout.specs.Meaning.{Lawful}
-use Rattle.model.specs.Calls.{make, refused, full}
+use Rattle.model.specs.Calls.{make, refused, full, number}
 use Rattle.model.specs.Bodies.{fresh, size, is-root}
 use Rattle.model.specs.Trains.{words-in-use, capacity}
 use Rattle.model.specs.Space.{Model, opening, space-make, act}
-use Rattle.model.specs.Examples.{Worked-examples, behind, repeated}
+use Rattle.model.specs.Examples.{Worked-examples, refusal-of, behind, repeated}
 use Rattle.model.proofs.Cars.{fresh-sized}
 
 product-lawful : Lawful product-meaning
@@ -38,9 +41,19 @@ no-room r k a b p q =
     by-tests _ _ _ k a b r filled p q
     (lt-leb (words-in-use (filled .trains) + size (fresh product-meaning k a b)) capacity (omega (arith, filled-words, fresh-sized product-meaning product-lawful k a b q .0)))
 
+codes : (r : Told-refusal) → number (refusal-of r) ≡ refusal-number r
+codes Root = refl
+codes Empty = refl
+codes Missing = refl
+codes Shape = refl
+codes Full = refl
+codes Range = refl
+codes Buffer = refl
+
 pub examples : Worked-examples
 unfolding filled
 examples = record {
+  numbers-are-the-codes = codes;
   cycle-across-two-trains = refl;
   cycle-with-cards = refl;
   records-have-a-word = refl;

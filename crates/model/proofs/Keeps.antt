@@ -19,7 +19,7 @@ use Rattle.model.specs.Claims.{Wish, Claim, claims, ref-wishes, train-wishes, 
 use Rattle.model.specs.Step.{Mark, first-to, outside, mark-wishes, wishes, place-all, trim, out-of, mark-after, guard}
 use Rattle.model.specs.Space.{Model, opening, all-objects, space-make, made-by, has-room, space-with, carried, trains-after, step-by, step-on, act, space-of}
 use Rattle.model.proofs.Totals.{total-++, claims-total, place-total, place-at-total, place-all-total, trim-objects}
-use Rattle.model.proofs.Sound.{All, Points, Sized, first-objects, Marked, Sound-at, Sound}
+use Rattle.model.specs.Sound.{All, Points, Sized, first-objects, Marked, Sound-at, Sound}
 use Rattle.model.proofs.Alls.{all-++, all-left, all-right, claims-all, place-at-all, place-all-all}
 use Rattle.model.proofs.Cars.{filled-tail, filled-place-at, filled-place-all, filled-trim, standing-place-at, standing-trim-all, length-place-at, length-place-all, length-trim, arrival-below, fresh-sized}
 use Rattle.model.proofs.Closure.{is-self, Wished, Each, each-left, each-right, claims-none, claims-done, ref-each, train-each, trains-each, out-some}

@@ -1,5 +1,4 @@
 pub mod Totals
-pub mod Sound
 pub mod Alls
 pub mod Distinct
 pub mod Cars
@@ -9,7 +8,6 @@ pub mod Alters
 pub mod Outside
 pub mod Keeps
 pub mod Sim
-pub mod NeverFail
 pub mod WasteClaims
 pub mod WasteClean
 pub mod WasteProgress
@@ -19,4 +17,5 @@ pub mod RememberCars
 pub mod RememberSlots
 pub mod RememberTold
 pub mod Remember
+pub mod NeverFail
 pub mod Examples

@@ -1,7 +1,8 @@
 -- A step always finds a free car and copies little, and nothing that is held is lost.
-use Prim.Native.Nat.{ℕ, _+_, _≤_}
+use Prim.Native.Nat.{_<_, ℕ, _+_, _≤_}
 use mathlib.Core.List.{[], _∷_, _++_}
-use mathlib.Core.Path.{_≡_, refl, sym, subst}
+use mathlib.Core.Bool.{true}
+use mathlib.Core.Path.{ap, _∙_, _≡_, refl, sym, subst}
 use native.Mathlib.Omega.{arith}
 use lib.ListN.{getD}
 use Rattle.std.specs.declared.option.Option.{Option}
@@ -9,16 +10,19 @@ use Rattle.std.specs.declared.option.Option.the-variants.{Some, None}
 use Rattle.layout.specs.Meaning.{Meaning, Lawful}
 use Rattle.remembered.specs.Meaning.{Meaning as Remembers}
 use Rattle.model.specs.Calls.{Call, make, access, step, tally, History}
-use Rattle.model.specs.Trains.{Car, Train, Trains, train-objects, objects, words-of, times, car-words}
+use Rattle.model.specs.Trains.{Car, Train, Trains, train-objects, objects, words-of, times, car-words, numbers, one-of, Distinct, car-count}
 use Rattle.model.specs.Claims.{Wish}
 use Rattle.model.specs.Step.{first-to, outside, wishes}
 use Rattle.model.specs.Space.{Model, all-objects, step-by, step-on, act, space-of, Use}
 use Rattle.model.specs.Laws.{Free-car, moment, Copies-few, Copies-few-if-step, Copies-few-each, steps-never-fail}
-use Rattle.model.proofs.Sound.{Sized, Filled, Sound-at}
+use Rattle.model.specs.Sound.{Sized, Filled, Sound-at}
 use Rattle.model.proofs.Alls.{all-left}
 use Rattle.model.proofs.Cars.{few-cars, free-car, free-at-moment, copied-few}
 use Rattle.model.proofs.Outside.{claims-below, wishes-below}
 use Rattle.model.proofs.Keeps.{inside-body, sound-of}
+use Rattle.remembered.specs.Cards.{card-has}
+use Rattle.remembered.proofs.CardLaws.{card-lawful}
+use Rattle.model.proofs.Remember.{overlooked-law}
 use Rattle.model.proofs.Sim.{reached-lies}
 
 first-filled : (f : Car) (cs : Train) → Filled (f ∷ cs) → words-of (f .objects) ≤ car-words
@@ -52,12 +56,37 @@ module _ (M : Meaning) (law : Lawful M) (has : Remembers) where
       go step q = subst Copies-few (sym q) (step-copies M has (space-of M has h .trains) (space-of M has h) (sound-of M law has h))
       go tally q = tt
 
+-- where objects lie does not depend on the set, so what is known of car numbers with one set is known with each
+step-alike : (M : Meaning) (a b : Remembers) (ts : Trains) (m : Model) → step-on M a ts m .state ≡ step-on M b ts m .state
+step-alike M a b [] m = refl
+step-alike M a b (t ∷ ts) m = go (first-to (train-objects t) (outside (m .roots) (t ∷ ts) ts)) t
+  where
+    go : (w : Option Wish) (u : Train) → step-by M a w u ts m .state ≡ step-by M b w u ts m .state
+    go None u = refl
+    go (Some w) [] = refl
+    go (Some w) (f ∷ cs) = refl
+
+act-alike : (M : Meaning) (a b : Remembers) (c : Call) (m : Model) → act M a c m .state ≡ act M b c m .state
+act-alike M a b (make r k x y) m = refl
+act-alike M a b (access c) m = refl
+act-alike M a b step m = step-alike M a b (m .trains) m
+act-alike M a b tally m = refl
+
+space-alike : (M : Meaning) (a b : Remembers) (h : History) → space-of M a h ≡ space-of M b h
+space-alike M a b [] = refl
+space-alike M a b (e ∷ h) = act-alike M a b (e .call) (space-of M a h) ∙ ap (λ m. act M b (e .call) m .state) (space-alike M a b h)
+
 pub never-fail-law : steps-never-fail
 never-fail-law M law has h u =
     let m = space-of M has h in
     let s = sound-of M law has h in
     let few = few-cars (m .trains) (s .filled) (s .room) (s .few) in
+    let same = space-alike M card-has has h in
+    let row = overlooked-law M law card-has card-lawful h in
     record {
+      stands = s;
+      below = subst (λ (n : Model). (k : ℕ) → one-of k (numbers (n .trains)) ≡ true → k < car-count) same (row .below);
+      differ = subst (λ (n : Model). Distinct (numbers (n .trains))) same (row .differ);
       free = free-car (m .trains) (omega (arith, few));
       free-in-a-step = moments m (m .trains) s;
       copies = copies-of M law has h u;

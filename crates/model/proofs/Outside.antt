@@ -13,7 +13,7 @@ use Rattle.model.specs.Bodies.{Roots}
 use Rattle.model.specs.Trains.{Obj, Car, Train, Trains, objects, times, among, arrival, most-trains}
 use Rattle.model.specs.Claims.{Wish, Claim, ref-wishes, object-wishes, train-wishes, trains-wishes, claim, all-to, claims}
 use Rattle.model.specs.Step.{Mark, first-to, outside, mark-wishes, wishes}
-use Rattle.model.proofs.Sound.{Marked}
+use Rattle.model.specs.Sound.{Marked}
 use Rattle.model.proofs.Closure.{Each, each-++, each-left, each-right, Wished, wished-right}
 use Rattle.model.proofs.Cars.{Ranks-below, arrival-below}
 

@@ -21,7 +21,7 @@ use Rattle.model.specs.Notes.{Seat, seat, Slot, train-slots, slots, notes, tar
 use Rattle.model.specs.Space.{Model, all-objects, space-make, made-by, has-room, space-with, carried, trains-after, step-by, step-on, act, space-of}
 use Rattle.model.specs.Remembered.{Each-slot, no-reference-is-overlooked}
 use Rattle.model.proofs.Totals.{total-++, claims-total, place-at-total}
-use Rattle.model.proofs.Sound.{All, Points, Sized, Filled, All-filled, Sound-at, Sound}
+use Rattle.model.specs.Sound.{All, Points, Sized, Filled, All-filled, Sound-at, Sound}
 use Rattle.model.proofs.Alls.{all-left, all-right, claims-all, place-at-all}
 use Rattle.model.proofs.Distinct.{one-of-here, one-of-there, one-of-apart, lowest-unused}
 use Rattle.model.proofs.Cars.{Ranks-below, filled-tail, filled-place-at, length-place-at, few-cars, length-numbers}

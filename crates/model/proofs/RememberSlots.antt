@@ -18,7 +18,7 @@ use Rattle.model.specs.Trains.{Obj, Car, Train, train-objects, times, is, one-
 use Rattle.model.specs.Notes.{Seat, train-seat, Slot, ref-slots, object-slots, train-slots}
 use Rattle.model.specs.Remembered.{Each-slot}
 use Rattle.model.proofs.Totals.{total-++}
-use Rattle.model.proofs.Sound.{All}
+use Rattle.model.specs.Sound.{All}
 use Rattle.model.proofs.Alls.{all-left, all-right}
 use Rattle.model.proofs.Alters.{alter-times, alter-size}
 use Rattle.model.proofs.Distinct.{one-of-here, one-of-there}

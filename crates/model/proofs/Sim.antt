@@ -20,7 +20,7 @@ use Rattle.model.specs.Step.{first-to, outside}
 use Rattle.model.specs.Space.{Model, opening, all-objects, space-make, made-by, has-room, space-with, step-by, step-on, act, space-of, Use}
 use Rattle.model.specs.Reach.{by-root, by-ref, Graph-reaches, Space-reaches}
 use Rattle.model.specs.Laws.{Plain-answer, Plain-answers, Full-exactly, Full-exactly-when, Same-reach, answers-are-the-plain-graphs}
-use Rattle.model.proofs.Sound.{All, Sound}
+use Rattle.model.specs.Sound.{All, Sound}
 use Rattle.model.proofs.Alls.{all-right, place-at-all}
 use Rattle.model.proofs.Alters.{objects-alter, alter-all}
 use Rattle.model.proofs.Keeps.{all-map, inside-body, step-all, sound-of}
@@ -131,10 +131,10 @@ made-sim b r g m s =
 pub record Together (M : Meaning) (has : Remembers) (c : Call) (a : Answer) (g : Graph) (m : Model) : Type 0 where
   pub sim : Sim (plain M (is-full a) c g .state) (act M has c m .state)
   pub answer : Plain-answer M c a g
-  pub full-when : Full-exactly M has (record { call = c; answer = a }) m
+  pub full-when : Full-exactly M (record { call = c; answer = a }) m
 
-no-make : (M : Meaning) (has : Remembers) (c : Call) (a : Answer) (m : Model) → ((r k x y : ℕ) → c ≡ make r k x y → ⊥) → Full-exactly M has (record { call = c; answer = a }) m
-no-make M has c a m h = record { only = λ r k x y e q. absurd (h r k x y e); always = λ r k x y e p q l. absurd (h r k x y e) }
+no-make : (M : Meaning) (c : Call) (a : Answer) (m : Model) → ((r k x y : ℕ) → c ≡ make r k x y → ⊥) → Full-exactly M (record { call = c; answer = a }) m
+no-make M c a m h = record { only = λ r k x y e q. absurd (h r k x y e); always = λ r k x y e p q l. absurd (h r k x y e) }
 
 abbrev Made : Meaning → (a b c : Bool) → (r k x y : ℕ) → Graph → Model → Type 0
 Made M a b c r k x y g m =
@@ -196,14 +196,14 @@ module _ (M : Meaning) (has : Remembers) where
         sim = subst (λ (p : Reply). Sim (with-effect (p .effect) g) (space-with M (reply-of (inside (all-objects m)) (m .roots) c .effect) m)) alike
             (effect-sim M (reply-of (inside (all-objects m)) (m .roots) c .effect) g m s);
         answer = e ∙ ap (λ (p : Reply). p .answer) alike;
-        full-when = no-make M has (access c) a m (λ r k x y q. let z : _≡_ {A = ℕ} 0 1 = cc in omega arith);
+        full-when = no-make M (access c) a m (λ r k x y q. let z : _≡_ {A = ℕ} 0 1 = cc in omega arith);
       }
 
   together : (c : Call) (a : Answer) (g : Graph) (m : Model) → Sim g m → Sound m → a ≡ act M has c m .answer → Together M has c a g m
   together (make r k x y) a g m s ok e = subst (λ b. Together M has (make r k x y) b g m) (sym e) (together-make r k x y g m s)
   together (access c) a g m s ok e = together-access c g m s ok a e
-  together step a g m s ok e = record { sim = step-sim M has g (m .trains) m s refl; answer = tt; full-when = no-make M has step a m (λ r k x y q. let z : _≡_ {A = ℕ} 0 1 = cc in omega arith) }
-  together tally a g m s ok e = record { sim = s; answer = tt; full-when = no-make M has tally a m (λ r k x y q. let z : _≡_ {A = ℕ} 0 1 = cc in omega arith) }
+  together step a g m s ok e = record { sim = step-sim M has g (m .trains) m s refl; answer = tt; full-when = no-make M step a m (λ r k x y q. let z : _≡_ {A = ℕ} 0 1 = cc in omega arith) }
+  together tally a g m s ok e = record { sim = s; answer = tt; full-when = no-make M tally a m (λ r k x y q. let z : _≡_ {A = ℕ} 0 1 = cc in omega arith) }
 
 opening-sim : Sim no-entries opening
 opening-sim = record { roots = refl; made = refl; twins = tt }

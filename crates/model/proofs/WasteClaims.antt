@@ -10,7 +10,7 @@ use Rattle.std.specs.declared.option.Option.the-variants.{Some, None}
 use Rattle.std.proofs.shelf.Tests.{eqb-true}
 use Rattle.model.specs.Trains.{Obj, Train, train-objects}
 use Rattle.model.specs.Claims.{sort-out, take-out, visit, close, claim, Wish, ref-wishes, object-wishes, train-wishes, Claim, all-to, claims}
-use Rattle.model.proofs.Sound.{All, Points}
+use Rattle.model.specs.Sound.{All, Points}
 use Rattle.model.proofs.Alls.{all-++, all-left, all-right, take-out-all, visit-all, claim-all}
 use Rattle.model.proofs.Closure.{Each, each-++}
 use Rattle.model.proofs.Keeps.{all-map}

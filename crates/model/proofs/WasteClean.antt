@@ -17,7 +17,7 @@ use Rattle.model.specs.Trains.{Obj, Car, Train, Trains, train-objects, objects
 use Rattle.model.specs.Claims.{Wish, ref-wishes, train-wishes, trains-wishes, Claim, claims}
 use Rattle.model.specs.Step.{Mark, first-to, outside, mark-wishes, wishes, place-all, mark-after, guard}
 use Rattle.model.specs.Space.{Model, all-objects, act, step-on, step-by, space-make, space-with, has-room}
-use Rattle.model.proofs.Sound.{All, Points}
+use Rattle.model.specs.Sound.{All, Points}
 use Rattle.model.proofs.Alls.{all-left, all-right, place-train-all, place-at-all}
 use Rattle.model.proofs.Alters.{objects-alter, train-alter, alter-all, set-either}
 use Rattle.model.proofs.Effects.{Brings, brings}

@@ -16,7 +16,7 @@ use Rattle.model.specs.Claims.{Wish}
 use Rattle.model.specs.Step.{Mark, first-to, outside, place-all, trim, out-of, mark-after, guard}
 use Rattle.model.specs.Space.{Model, all-objects, carried, act, step-on, step-by, space-make, space-with, has-room}
 use Rattle.model.specs.Laws.{is-step}
-use Rattle.model.proofs.Sound.{All, Sound-at, Sound}
+use Rattle.model.specs.Sound.{All, Sound-at, Sound}
 use Rattle.model.proofs.Outside.{first-some}
 use Rattle.model.proofs.Cars.{arrival-below}
 use Rattle.model.proofs.WasteClaims.{Leads, Sent}

@@ -21,7 +21,7 @@ use Rattle.model.specs.Space.{Model, all-objects, space-of, Use}
 use Rattle.model.specs.Reach.{by-root, by-ref, Space-reaches, Unreachable}
 use Rattle.model.specs.Laws.{steps, train-steps, Waste-up-to, Gone-after, waste-near-the-front-leaves-sooner, waste-leaves-in-counted-steps, size-of, sizes, numbered, words-in-use-are-of-the-reachable-and-the-new}
 use Rattle.model.proofs.Totals.{total-++}
-use Rattle.model.proofs.Sound.{All, Sound-at, Sound}
+use Rattle.model.specs.Sound.{All, Sound-at, Sound}
 use Rattle.model.proofs.Distinct.{sum-by, sum-within, one-of-head, one-of-left, one-of-right, in-numbered}
 use Rattle.model.proofs.Keeps.{all-map, sound-of}
 use Rattle.model.proofs.Sim.{Twin, sim-of}

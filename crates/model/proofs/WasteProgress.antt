@@ -16,7 +16,7 @@ use Rattle.model.specs.Claims.{Wish, Claim}
 use Rattle.model.specs.Step.{Mark, first-to, outside, wishes, place-all, is-zero, out-of, back-of, claimed, mark-after, guard}
 use Rattle.model.specs.Space.{Model, carried}
 use Rattle.model.proofs.Totals.{total-++, claims-total, place-total}
-use Rattle.model.proofs.Sound.{All, Sized, Filled, Sound-at}
+use Rattle.model.specs.Sound.{All, Sized, Filled, Sound-at}
 use Rattle.model.proofs.Alls.{all-left}
 use Rattle.model.proofs.Closure.{Wished}
 use Rattle.model.proofs.Alters.{alter-times}

@@ -96,7 +96,7 @@ on-object roots-ok f k = unless roots-ok root (on-found f k)
 -- what a word is after a lift: none if it would leave 0 to 4,294,967,295
 abbrev pub lifted : ℕ → ℤ → Option ℕ
 lifted v (pos n) = elim (leb (v + n) 4294967295) [ true ↦ Some (v + n) | false ↦ None ]
-lifted v (negsuc n) = elim (ltb n v) [ true ↦ Some (v - (n + 1)) | false ↦ None ]
+lifted v (negsuc n) = elim (ltb n v && leb (v - (n + 1)) 4294967295) [ true ↦ Some (v - (n + 1)) | false ↦ None ]
 
 abbrev pub store-lifted : (object word : ℕ) → Option ℕ → Reply
 store-lifted x w None = refuse range

@@ -7,12 +7,15 @@ use lib.Chars.{codes}
 use lib.IntN.{pos, negsuc}
 use Rattle.std.specs.declared.result.Result.the-variants.{Err}
 use Rattle.script_reader.specs.Reader.{player-of}
+use Rattle.calls.specs.Answers.{refusal-number}
+use Rattle.calls.specs.declared.answer.Refusal.{Refusal as Told-refusal}
+use Rattle.calls.specs.declared.answer.Refusal.the-variants.{Root, Empty, Missing, Shape, Full, Range, Buffer}
 use Rattle.calls.specs.Faults.{player-fault, line-fault, no-number, bad-words}
 use Rattle.layout.specs.Product.{product-meaning}
 use Rattle.remembered.specs.Slots.{slot-has}
 use Rattle.remembered.specs.Cards.{card-has}
 use Rattle.remembered.specs.Meaning.{Meaning as Remembers}
-use Rattle.model.specs.Calls.{Call, make, access, step, tally, link, drop, put, lift, get, same, Answer, refused, done, value, alike, usage, report, shape, full, range, car, train}
+use Rattle.model.specs.Calls.{Call, make, access, step, tally, link, drop, put, lift, get, same, Answer, refused, done, value, alike, usage, report, shape, full, range, car, train, Refusal, number, root, empty, missing, buffer}
 use Rattle.model.specs.Bodies.{is-root}
 use Rattle.model.specs.Space.{Model, opening, act}
 
@@ -46,7 +49,19 @@ cycle-answers n =
 abbrev pub lift-from : (v : ℕ) → Call → List Call
 lift-from v c = make 0 0 0 1 ∷ access (put 0 0 v) ∷ c ∷ access (get 0 0) ∷ []
 
+-- a refusal of the script's answers as one of the space
+abbrev pub refusal-of : Told-refusal → Refusal
+refusal-of Root = root
+refusal-of Empty = empty
+refusal-of Missing = missing
+refusal-of Shape = shape
+refusal-of Full = full
+refusal-of Range = range
+refusal-of Buffer = buffer
+
 pub record Worked-examples : Type 0 where
+  -- the numbers of refusals are the codes of output lines
+  pub numbers-are-the-codes : (r : Told-refusal) → number (refusal-of r) ≡ refusal-number r
   pub cycle-across-two-trains : answers slot-has cycle opening ≡ cycle-answers 1
   -- a card has 16 addresses
   pub cycle-with-cards : answers card-has cycle opening ≡ cycle-answers 16

@@ -6,6 +6,7 @@ pub mod Claims
 pub mod Step
 pub mod Notes
 pub mod Space
+pub mod Sound
 pub mod Reach
 pub mod Laws
 pub mod Remembered

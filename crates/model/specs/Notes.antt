@@ -25,7 +25,7 @@ abbrev pub seat : (n x : ℕ) → Trains → Option Seat
 seat n x [] = None
 seat n x (t ∷ ts) = train-seat n x t (seat (n + length t) x ts)
 
--- reference number of the holder, which lies in the car at the place order; it holds target
+-- reference number index of the holder, which lies in the car at the place order; it holds target
 pub record Slot : Type 0 where
   pub order : ℕ
   pub address : ℕ

@@ -20,7 +20,7 @@ Graph-reaches g x = Reaches (g .roots) (entry (g .entries)) x
 abbrev pub Space-reaches : Model → ℕ → Type 0
 Space-reaches m x = Reaches (m .roots) (inside (all-objects m)) x
 
--- made, and reached by nothing
+-- made, and not reached from the roots
 pub record Unreachable (m : Model) (x : ℕ) : Type 0 where
   pub old : x < m .made
   pub unreached : Space-reaches m x → ⊥

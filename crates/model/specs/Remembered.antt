@@ -37,6 +37,9 @@ pub record Nothing-overlooked (M : Meaning) (has : Remembers) (m : Model) : Type
   pub lies : Each-slot (Holds-what-lies m) (slots M 0 (m .trains))
   pub remembered : Each-slot (Remembered-if-later has m) (slots M 0 (m .trains))
 
+-- at every halt, however the space got there
+abbrev pub Overlooks-nothing : Meaning → Remembers → Type 0
+Overlooks-nothing M has = (h : History) → Nothing-overlooked M has (space-of M has h)
+
 abbrev pub no-reference-is-overlooked : Type 0
-no-reference-is-overlooked =
-    (M : Meaning) → Lawful M → (has : Remembers) → Remembers-lawfully has → (h : History) → Nothing-overlooked M has (space-of M has h)
+no-reference-is-overlooked = (M : Meaning) → Lawful M → (has : Remembers) → Remembers-lawfully has → Overlooks-nothing M has

@@ -2,9 +2,7 @@
 // remembered set and every history. No code stands here; each function carries one law in its contract.
 ghost use Rattle.model.specs.Examples.{Worked-examples};
 ghost use Rattle.model.specs.Laws.{answers-are-the-plain-graphs, steps-never-fail, waste-near-the-front-leaves-sooner, waste-leaves-in-counted-steps, words-in-use-are-of-the-reachable-and-the-new, Laws-of};
-ghost use Rattle.model.specs.Calls.{History};
-ghost use Rattle.model.specs.Remembered.{Nothing-overlooked, no-reference-is-overlooked};
-ghost use Rattle.model.specs.Space.{space-of};
+ghost use Rattle.model.specs.Remembered.{Overlooks-nothing, no-reference-is-overlooked};
 use layout::Layout;
 use remembered::RememberedSet;
 
@@ -14,8 +12,8 @@ pub fn answers_are_the_plain_graphs()
     ensures { λ _. ⌜ answers-are-the-plain-graphs ⌝ }
 {}
 
-// A free car is there at every moment, a step copies at most the words of one car, nothing reachable is lost, and
-// nothing dangles.
+// Cars and trains stand as told, a free car is there at every moment, a step copies at most the words of one car,
+// nothing reachable is lost, and nothing dangles.
 pub fn steps_never_fail()
     ensures { λ _. ⌜ steps-never-fail ⌝ }
 {}
@@ -44,7 +42,7 @@ pub fn no_reference_is_overlooked()
 // All of these for a layout and a remembered set of the code, by what they mean.
 pub fn laws_of<L: Layout, R: RememberedSet>()
     ensures uses { λ _. ⌜ Laws-of (L·Layout .meaning) (R·RememberedSet .means) ⌝ }
-    ensures remembers { λ _. ⌜ ((h : History) → Nothing-overlooked (L·Layout .meaning) (R·RememberedSet .means) (space-of (L·Layout .meaning) (R·RememberedSet .means) h)) ⌝ }
+    ensures remembers { λ _. ⌜ Overlooks-nothing (L·Layout .meaning) (R·RememberedSet .means) ⌝ }
 {}
 
 // What the definitions give for the worked examples.

@@ -10,6 +10,7 @@ use Rattle.model.specs.Trains.{Obj, Train, Trains, train-objects, objects, wor
 use Rattle.model.specs.Step.{Mark}
 use Rattle.model.specs.Space.{Model}
 
+-- P holds of each object
 abbrev pub All : (Obj → Type 0) → List Obj → Type 0
 All P [] = Unit {0}
 All P (o ∷ os) = P o × All P os
@@ -18,6 +19,7 @@ All P (o ∷ os) = P o × All P os
 abbrev pub Points : (ℕ → Type 0) → Obj → Type 0
 Points Q o = (i y : ℕ) → getD (o .body .refs) i None ≡ Some y → Q y
 
+-- an object has from 2 to 64 words
 abbrev pub Sized : Obj → Type 0
 Sized o = (2 ≤ obj-size o) × (obj-size o ≤ 64)
 
@@ -40,6 +42,7 @@ abbrev pub first-objects : Trains → List Obj
 first-objects [] = []
 first-objects (t ∷ ts) = train-objects t
 
+-- a mark names an object of the first train and the rank of another, or of the one that would be opened next
 pub record Marked (w : Mark) (ts : Trains) : Type 0 where
   pub lies : 1 ≤ times (w .who) (first-objects ts)
   pub above : 1 ≤ w .rank
@@ -47,9 +50,11 @@ pub record Marked (w : Mark) (ts : Trains) : Type 0 where
   pub below : w .rank < most-trains
 
 pub record Sound-at (made : ℕ) (rs : Roots) (ts : Trains) (mk : Option Mark) : Type 0 where
+  -- identities were given, and each lies in a car at most once
   pub old : All (λ o. o .id < made) (objects ts)
   pub once : (x : ℕ) → times x (objects ts) ≤ 1
   pub sized : All Sized (objects ts)
+  -- roots and references, those of waste too, hold what lies in a car or none
   pub roots : (r x : ℕ) → held rs r ≡ Some x → 1 ≤ times x (objects ts)
   pub refs : All (Points (λ y. 1 ≤ times y (objects ts))) (objects ts)
   pub room : words-in-use ts ≤ capacity
@@ -58,5 +63,6 @@ pub record Sound-at (made : ℕ) (rs : Roots) (ts : Trains) (mk : Option Mark) :
   pub few : length ts ≤ most-trains
   pub mark : (w : Mark) → mk ≡ Some w → Marked w ts
 
+-- the facts that every call keeps
 abbrev pub Sound : Model → Type 0
 Sound m = Sound-at (m .made) (m .roots) (m .trains) (m .mark)
