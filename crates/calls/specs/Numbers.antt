@@ -1,5 +1,6 @@
 -- Numbers as a script and an output line have them.
 use mathlib.Core.Bool.{Bool, true, false, cond, not, _&&_}
+use mathlib.Core.Path.{_≡_}
 use mathlib.Core.List.{List, [], _∷_, _++_}
 use Prim.Native.Nat.{ℕ, zero, suc, _+_, _-_, _*_, _/_, _%_, _≤_}
 use lib.Dec.{eqb, leb}
@@ -60,3 +61,10 @@ signed-digits (negsuc n) = 45 ∷ digits-of (suc n)
 abbrev pub Fits-lift : ℤ → Type 0
 Fits-lift (pos n) = n ≤ 2147483647
 Fits-lift (negsuc n) = n ≤ 2147483647
+
+-- each number in range is read from its digits, and from no other bytes
+pub record Numbers-read-back : Type 0 where
+  pub natural-back : (n : ℕ) → n ≤ 4294967295 → natural-of (digits-of n) ≡ Some n
+  pub natural-only : (text : List ℕ) (n : ℕ) → natural-of text ≡ Some n → (text ≡ digits-of n) × (n ≤ 4294967295)
+  pub integer-back : (z : ℤ) → Fits-lift z → integer-of (signed-digits z) ≡ Some z
+  pub integer-only : (text : List ℕ) (z : ℤ) → integer-of text ≡ Some z → (text ≡ signed-digits z) × Fits-lift z

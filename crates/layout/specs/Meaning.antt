@@ -14,7 +14,7 @@ pub record Meaning : Type 0 where
   pub ref-offset : (kind refs words i : ℕ) → ℕ
   pub word-offset : (kind refs words i : ℕ) → ℕ
 
--- n words behind a header, p of them at the offsets f and q at the offsets g: each has a place of its own, in rising order
+-- words behind a header, p of them at the offsets f and q at the offsets g: each has a place of its own, in rising order
 pub record Apart (p q : ℕ) (f g : ℕ → ℕ) : Type 0 where
   pub some : 1 ≤ p + q
   pub few : p + q ≤ 63

@@ -13,11 +13,6 @@ use crate::record::RecordLayout;
 
 pub type Product = Pair<Record, Array>;
 
-pub const PRODUCT: Product = Pair {
-    first: Record,
-    second: Array,
-};
-
 // The header word of a shape of the product, whose shapes are told number by number here.
 pub fn product_header(kind: u32, refs: u32, words: u32) -> Option<u32>
     ensures answer { λ r. ⌜ Cases r (ProductShape kind refs words → ⊥) (λ h. ProductShape kind refs words × (h ≡ product-coding .code kind refs words)) ⌝ }

@@ -49,16 +49,21 @@ mod tests {
     }
 
     // Every reference is found again by its offset, and no offset beyond the object is a reference.
+    fn is_a_header(word: u32) -> Result<(), Fail> {
+        for i in 0..Product::references(word) {
+            let offset = Product::reference_offset(word, i).ok_or("no offset")?;
+            check_eq(Product::reference_at(word, offset), Some(i))?;
+        }
+        check_eq(Product::reference_at(word, 0), None)?;
+        check_eq(Product::reference_at(word, Product::size(word)), None)
+    }
+
     #[test]
     fn every_word_is_a_header() -> Result<(), Fail> {
-        for header in 0..2048 {
-            for i in 0..Product::references(header) {
-                let offset = Product::reference_offset(header, i).ok_or("no offset")?;
-                check_eq(Product::reference_at(header, offset), Some(i))?;
-            }
-            check_eq(Product::reference_at(header, 0), None)?;
-            check_eq(Product::reference_at(header, Product::size(header)), None)?;
+        for word in 0..2048 {
+            is_a_header(word)?;
         }
-        Ok(())
+        is_a_header(2147483648)?;
+        is_a_header(u32::MAX)
     }
 }

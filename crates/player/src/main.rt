@@ -22,7 +22,7 @@ fn message(error: PlayError) -> &'static str {
         PlayError::TooLong => "refused 11: the script has more than 32,768 bytes or 512 lines",
         PlayError::Stopped(Trouble::Memory) => "stopped: no memory is left",
         PlayError::Stopped(Trouble::NoCar) => "stopped: no car is free",
-        PlayError::Stopped(Trouble::NoRoom) => "stopped: a line is too long",
+        PlayError::Stopped(Trouble::NoRoom) => "stopped: no room for a line",
     }
 }
 

@@ -10,7 +10,6 @@ ghost use Rattle.remembered.specs.Meaning.Told.{note as noting, forget as forg
 mod bits;
 pub mod buffered;
 pub mod card;
-pub mod laws;
 pub mod slot;
 pub mod tally;
 

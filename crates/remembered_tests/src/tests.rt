@@ -34,8 +34,11 @@ fn pairs_in_range_only() -> Result<(), Fail> {
     check_eq(out_of_range(SlotSet::empty()), 13)?;
     check_eq(out_of_range(Buffered::over(SlotSet::empty())), 13)?;
     check_eq(out_of_range(Buffered::over(CardSet::empty())), 13)?;
-    // the card set pairs the whole card of the address
-    check_eq(out_of_range(CardSet::empty()), 12)
+    // the card set differs only in the last answer: it pairs the whole card of the address
+    let mut cards = CardSet::empty();
+    check_eq(out_of_range(CardSet::empty()), 12)?;
+    let whole_card = [Call::Note(63, 8191), Call::Next(63, 0, Some(8176))];
+    check_eq(first_wrong(&mut cards, &whole_card), 2)
 }
 
 #[test]

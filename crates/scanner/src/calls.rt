@@ -2,7 +2,6 @@
 use crate::objects::ObjectId;
 use crate::objects::ObjectIdPartialEq;
 use crate::objects::Shape;
-use crate::space::ROOTS;
 use crate::space::Slot;
 use crate::space::Space;
 use crate::trouble::Trouble;

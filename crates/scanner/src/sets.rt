@@ -24,16 +24,6 @@ pub enum Choice {
 }
 
 impl Choice {
-    pub fn from_number(number: u32) -> Option<Choice> {
-        match number {
-            0 => Some(Choice::Slots),
-            1 => Some(Choice::Cards),
-            2 => Some(Choice::BufferedSlots),
-            3 => Some(Choice::BufferedCards),
-            _ => None,
-        }
-    }
-
     fn has_cards(self) -> bool {
         matches!(self, Choice::Cards | Choice::BufferedCards)
     }

@@ -8,7 +8,7 @@ pub enum Trouble {
     Memory,
     // No car was free. The limit on the words in use rules it out; it is told apart so that it cannot pass unseen.
     NoCar,
-    // An output line was longer than any is.
+    // Fewer than 64 bytes were left for an output line. The output has 64 for each, so this is ruled out too.
     NoRoom,
 }
 

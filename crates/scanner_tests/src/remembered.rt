@@ -50,7 +50,7 @@ fn what_is_out_of_range_is_never_paired(rt: LibcRuntime) -> Result<(), Fail> {
     check_eq(cards.count(63), 1)
 }
 
-// The seventeenth pair sends sixteen pairs of sixteen cards down. It is held then, though its card is now marked.
+// The seventeenth pair sends sixteen pairs of sixteen cards down.
 #[test]
 fn a_full_buffer_goes_down_to_the_cards(rt: LibcRuntime) -> Result<(), Fail> {
     let mut cards = Remembered::new(rt.alloc(), Choice::BufferedCards);

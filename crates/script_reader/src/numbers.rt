@@ -1,6 +1,6 @@
 // Numbers as a script writes them: digits with no leading zero, and a minus sign exactly where one is negative.
 ghost use mathlib.Core.Path.{_≡_};
-ghost use Rattle.calls.specs.Numbers.{onward, no-leading-zero, natural-of, integer-of, plus, minus};
+ghost use Rattle.calls.specs.Numbers.{Numbers-read-back, onward, no-leading-zero, natural-of, integer-of, plus, minus};
 ghost use Rattle.std.specs.declared.option.Option.the-variants.{Some};
 
 // There is a byte, and no zero in front of another.
@@ -70,3 +70,9 @@ fn negative(size: u32) -> Option<i32>
         Some((-(size as i64)) as i32)
     }
 }
+
+// Reading and writing fit: each number in range is read from its digits, after a minus sign if it is negative, and from
+// no other bytes.
+pub fn numbers_are_read_back()
+    ensures { λ _. ⌜ Numbers-read-back ⌝ }
+{}

@@ -105,6 +105,7 @@ fn a_fault() -> Result<(), Fail> {
 fn a_line_wants_64_bytes() -> Result<(), Fail> {
     let mut out = [7u8; 66];
     check_eq(write_answer(&mut out, START, &Answer::Done), None)?;
-    check_eq(write_answer(&mut out, 2, &Answer::Done), Some(4))?;
-    check_eq(write_answer(&mut out, 67, &Answer::Done), None)
+    check_eq(write_answer(&mut out, 67, &Answer::Done), None)?;
+    check(out == [7u8; 66])?;
+    check_eq(write_answer(&mut out, 2, &Answer::Done), Some(4))
 }
