@@ -1,4 +1,6 @@
 // The calls of a script, what they answer, and what may be wrong with a line.
+#![tactic(auto)]
+
 pub mod answer;
 pub mod call;
 pub mod faults;

@@ -1,4 +1,6 @@
 // Layouts: which shapes of objects there are, and what a header word tells of its object.
+#![tactic(auto)]
+
 ghost use Rattle.std.specs.Prelude.{◌≡◌, ◌+◌, ◌≤◌};
 ghost use Rattle.layout.specs.Coding.{Coding, Coded, Headed, Nth, Inside, Which};
 ghost use Rattle.layout.specs.Meaning.{Meaning, Lawful};

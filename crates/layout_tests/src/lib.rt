@@ -1,4 +1,5 @@
 // Table tests of the layouts: the edges of what is admitted, and what headers tell.
+#![tactic(auto)]
 
 #[cfg(test)]
 mod tests {

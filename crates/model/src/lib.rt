@@ -1,5 +1,7 @@
 // The definition of the space (specs/), and the laws over whole uses that are proved of it: for every layout, every
 // remembered set and every history. No code stands here; each function carries one law in its contract.
+#![tactic(auto)]
+
 ghost use Rattle.model.specs.Examples.{WorkedExamples};
 ghost use Rattle.model.specs.Laws.{AnswersAreThePlainGraphs, StepsNeverFail, WasteNearTheFrontLeavesSooner, WasteLeavesInCountedSteps, WordsInUseAreOfTheReachableAndTheNew, LawsOf};
 ghost use Rattle.model.specs.Remembered.{OverlooksNothing, NoReferenceIsOverlooked};

@@ -1,4 +1,6 @@
 // Plays the script on standard input with the slot set, and writes the play to standard output.
+#![tactic(auto)]
+
 use scanner::{Choice, PlayError, Trouble, play};
 use std::io;
 use std::io::{Read, Write};

@@ -1,4 +1,6 @@
 // Remembered sets: which addresses may hold slots that hold objects of which car.
+#![tactic(auto)]
+
 ghost use Rattle.std.specs.Prelude.{◌≡◌, ℕ, ◌<◌, Bool, true, false, [], ◌∷◌};
 ghost use Rattle.remembered.specs.Laws.{Keeps, KeepsOthers, Least};
 ghost use Rattle.remembered.specs.Meaning.{Told, Row, Meaning, Lawful};

@@ -1,4 +1,6 @@
 // Lists of calls with the answers expected of each remembered set.
+#![tactic(auto)]
+
 #[cfg(test)]
 mod calls;
 #[cfg(test)]

@@ -1,4 +1,6 @@
 // A second player of the whole system, kept simple: it finds references by looking at every object.
+#![tactic(auto)]
+
 mod calls;
 mod carry;
 mod claims;

@@ -1,4 +1,6 @@
 // Plays whose answers were worked out by hand from the rules, and the remembered sets on their own.
+#![tactic(auto)]
+
 #[cfg(test)]
 mod limits;
 #[cfg(test)]

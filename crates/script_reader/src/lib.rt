@@ -1,4 +1,6 @@
 // The lines of a script, the words of a line, and the call that a line asks for.
+#![tactic(auto)]
+
 pub mod lines;
 pub mod names;
 pub mod numbers;

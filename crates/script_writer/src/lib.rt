@@ -1,4 +1,6 @@
 // The lines that a play writes.
+#![tactic(auto)]
+
 pub mod writer;
 
 pub use writer::{LINE_ROOM, write_answer, write_fault};
