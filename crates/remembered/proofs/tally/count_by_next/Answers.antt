@@ -18,5 +18,5 @@ loop-address-preserved g c =
 pub returns : goal.returns
 returns g c =
     let P = g.R.RememberedSet.has c.args.rset.now c.args.car in
-    let told = c.in-default.ensures in
+    let told = c.in_default.ensures in
     c.loop-address.invariant.2 ∙ sym (count_upto P c.loop-address.from 8192 c.loop-address.invariant.0 (λ k h l. told k h))

@@ -9,6 +9,6 @@ returns c =
     let f : c.args.n < 2 ^ 64 = search rules in
     let l : length (digits_of c.args.n) ≤ 20 = length_digits_le 20 c.args.n (omega arith) (omega arith) (omega arith) in
     record {
-      put = put_then c.put-behind.ensures c.put-number.ensures;
-      short = omega (arith, c.put-behind.ensures.behind, c.put-number.ensures.behind);
+      put = put_then c.put-behind.ensures c.put_number.ensures;
+      short = omega (arith, c.put-behind.ensures.behind, c.put_number.ensures.behind);
     }

@@ -5,8 +5,8 @@ use Rattle.calls.proofs.Digits.{length_digits_le}
 use Rattle.script_writer.proofs.Laying.{spell, spell_digits, fill_step, fill_end}
 use Rattle.script_writer.proofs.writer.put_number.Goals as goal
 
-pub overflow-add-end : goal.overflow-add-end
-overflow-add-end c =
+pub overflow_add-end : goal.overflow_add-end
+overflow_add-end c =
     let f : c.args.n < 2 ^ 64 = search rules in
     omega (arith, c.width.ensures, length_digits_le 20 c.args.n (omega arith) (omega arith) f)
 

@@ -5,6 +5,6 @@ use Rattle.script_writer.proofs.writer.put_value.Goals as goal
 pub returns : goal.returns
 returns c =
     let p =
-    (put_then c.put-code-code.ensures.put
-    (put_then c.part-u32-part.ensures.put c.put.ensures)) in
+    (put_then c.put_code-code.ensures.put
+    (put_then c.part_u32-part.ensures.put c.put.ensures)) in
     record { room = c.requires; bytes = p.bytes_at; behind = p.behind; short = omega (arith, p.behind, c.put.ensures.behind) }

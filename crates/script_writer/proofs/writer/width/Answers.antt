@@ -3,8 +3,8 @@ use Rattle.calls.specs.Numbers.{digits_of}
 use Rattle.calls.proofs.Digits.{length_digits_le, length_digits_one, length_digits_more}
 use Rattle.script_writer.proofs.writer.width.Goals as goal
 
-pub overflow-add-count : goal.overflow-add-count
-overflow-add-count c =
+pub overflow_add-count : goal.overflow_add-count
+overflow_add-count c =
     let f : c.args.n < 2 ^ 64 = search rules in
     let l : length (digits_of c.args.n) ≤ 20 = length_digits_le 20 c.args.n (omega arith) (omega arith) f in
     omega (arith, c.loop-rest.invariant.1)

@@ -24,8 +24,8 @@ loop-i-preserved g c =
       | else-p-car w ↦ (omega (arith, w.at-is, inv.0), ap length w.fresh-is ∙ inv.1, ap (λ m. take m c.if-p-car.fresh) w.at-is ∙ ap (take n) w.fresh-is ∙ inv.2 ∙ sym (drop_skip c.args.car l i li w.if-p-car.false))
     ]
 
-pub invariant-of-self : goal.invariant-of-self
-invariant-of-self g c =
+pub invariant_of-self : goal.invariant_of-self
+invariant_of-self g c =
     let s = c.args.self.now in
     let inv = c.loop-i.invariant in
     let whole : s.count ≡ c.loop-i.i = omega arith in (

@@ -5,8 +5,8 @@ use Rattle.remembered.specs.Pairs.{pair}
 use Rattle.remembered.specs.BufferLaws.{ranged_push}
 use Rattle.remembered.proofs.buffered.Buffered.hold.Goals as goal
 
-pub invariant-of-self : goal.invariant-of-self
-invariant-of-self g c =
+pub invariant_of-self : goal.invariant_of-self
+invariant_of-self g c =
     let s = c.args.self.now in
     let p = pair c.args.car c.args.address in
     let full : length s.held ≡ 16 = s.full in

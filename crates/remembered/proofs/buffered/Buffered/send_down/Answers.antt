@@ -16,5 +16,5 @@ loop-i-preserved g c =
     let one = subst (λ l. N c.loop-i.self.below (get_or l i P0).car (get_or l i P0).address c.note.new.self) inv.0 c.note.ensures in
     (inv.0, inv.1, sends_more N s.below s.held i c.loop-i.self.below c.note.new.self (omega arith) inv.2 one)
 
-pub invariant-of-self-2 : goal.invariant-of-self-2
-invariant-of-self-2 g c = (c.loop-i.self.full, (omega arith, (ranged_none, tt)))
+pub invariant_of-self-2 : goal.invariant_of-self-2
+invariant_of-self-2 g c = (c.loop-i.self.full, (omega arith, (ranged_none, tt)))

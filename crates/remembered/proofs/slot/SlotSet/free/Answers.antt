@@ -2,13 +2,13 @@ use Rattle.std.proofs.Common.{◌≡◌, length, ◌∙◌, arith, length-set}
 use Rattle.remembered.specs.SlotLaws.{cleared_kept, counted_less, places_less, places_part, lowered, freed_pairs}
 use Rattle.remembered.proofs.slot.SlotSet.free.Goals as goal
 
-pub overflow-sub-self : goal.overflow-sub-self
-overflow-sub-self c =
+pub overflow_sub-self : goal.overflow_sub-self
+overflow_sub-self c =
     let s = c.args.self.now in
     omega (arith, s.counted c.args.car c.requires, places_part s.words c.args.car c.requires)
 
-pub invariant-of-self : goal.invariant-of-self
-invariant-of-self c =
+pub invariant_of-self : goal.invariant_of-self
+invariant_of-self c =
     let s = c.args.self.now in
     let d = c.args.car in
     let vs = c.clear.new.words in

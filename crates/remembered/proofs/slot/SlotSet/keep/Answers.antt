@@ -2,14 +2,14 @@ use Rattle.std.proofs.Common.{◌≡◌, length, ◌∙◌, arith, length-set}
 use Rattle.remembered.specs.SlotLaws.{new_parts, marked-kept, counted_more, places_more, places_part}
 use Rattle.remembered.proofs.slot.SlotSet.keep.Goals as goal
 
-pub overflow-add-self : goal.overflow-add-self
-overflow-add-self c =
+pub overflow_add-self : goal.overflow_add-self
+overflow_add-self c =
     let s = c.args.self.now in
     let n = new_parts s.words s.overflown c.args.car c.args.address c.requires.0 in
     omega (arith, n.0, s.counted c.args.car n.0, places_part s.words c.args.car n.0)
 
-pub invariant-of-self : goal.invariant-of-self
-invariant-of-self c =
+pub invariant_of-self : goal.invariant_of-self
+invariant_of-self c =
     let s = c.args.self.now in
     let d = c.args.car in
     let a = c.args.address in

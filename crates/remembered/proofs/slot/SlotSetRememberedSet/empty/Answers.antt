@@ -4,19 +4,19 @@ use Rattle.remembered.specs.Words.{zeros}
 use Rattle.remembered.specs.SlotLaws.{zeros_of, zeros_places, zero_pairs, zero_stands}
 use Rattle.remembered.proofs.slot.SlotSetRememberedSet.empty.Goals as goal
 
-pub invariant-of-result : goal.invariant-of-result
-invariant-of-result c =
-    let w = c.no-words.ensures in (
+pub invariant_of-result : goal.invariant_of-result
+invariant_of-result c =
+    let w = c.no_words.ensures in (
       ap length w,
-      (ap length c.no-flags.ensures, (refl, (λ d h. zeros 64 d ∙ sym (ap (λ l. kept_of l d) w ∙ zeros_of d), (sym (ap places w ∙ zeros_places), (omega arith, tt))))),
+      (ap length c.no_flags.ensures, (refl, (λ d h. zeros 64 d ∙ sym (ap (λ l. kept_of l d) w ∙ zeros_of d), (sym (ap places w ∙ zeros_places), (omega arith, tt))))),
     )
 
 pub returns : goal.returns
 returns c =
-    let ws = c.no-words.result in
-    let os = c.no-flags.result in
-    let w = c.no-words.ensures in
-    let o = c.no-flags.ensures in
+    let ws = c.no_words.result in
+    let os = c.no_flags.result in
+    let w = c.no_words.ensures in
+    let o = c.no_flags.ensures in
     let z : List ℕ = replicate 8192 0 in
     record {
       none = λ d a. ap (λ l. slot_pairs l os d a) w ∙ ap (λ l. slot_pairs z l d a) o ∙ zero_pairs d a;
