@@ -5,7 +5,7 @@ ghost use Rattle.remembered.specs.Meaning.{pairs_of};
 use crate::RememberedSet;
 
 fn count_by_next<R: RememberedSet>(rset: &R, car: u32) -> u32
-    ensures { result ≡ pairs_of (has rset.now) car }
+    ensures { result ≡ pairs_of (R.has rset.now) car }
 {
     let mut n: u32 = 0;
     let mut from: u32 = 0;
@@ -18,7 +18,7 @@ fn count_by_next<R: RememberedSet>(rset: &R, car: u32) -> u32
 
 // How many pairs of a car a set has, found by `next` alone.
 pub fn pairs<R: RememberedSet>(rset: &R, car: u32) -> u32
-    ensures { result ≡ pairs_of (has rset.now) car }
+    ensures { result ≡ pairs_of (R.has rset.now) car }
 {
     count_by_next(rset, car)
 }

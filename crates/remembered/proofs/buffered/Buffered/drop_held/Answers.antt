@@ -28,10 +28,9 @@ pub invariant_of-self : goal.invariant_of-self
 invariant_of-self g c =
     let s = c.args.self.now in
     let inv = c.loop-i.invariant in
-    let whole : s.count ≡ c.loop-i.i = omega arith in (
-      inv.1,
-      (
-        omega (arith, inv.0, s.few),
-        (subst Ranged (sym inv.2) (ranged_without (take c.loop-i.i s.held) c.args.car (subst (λ n. Ranged (take n s.held)) whole s.near)), tt),
-      ),
-    )
+    let whole : s.count ≡ c.loop-i.i = omega arith in
+    record {
+      full = inv.1;
+      few = omega (arith, inv.0, s.few);
+      near = subst Ranged (sym inv.2) (ranged_without (take c.loop-i.i s.held) c.args.car (subst (λ n. Ranged (take n s.held)) whole s.near));
+    }

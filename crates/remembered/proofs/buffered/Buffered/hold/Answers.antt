@@ -10,10 +10,12 @@ invariant_of-self g c =
     let s = c.args.self.now in
     let p = pair c.args.car c.args.address in
     let full : length s.held ≡ 16 = s.full in
-    let lt : s.count < length s.held = omega (arith, c.requires.0) in (
-      length-set s.held s.count p ∙ full,
-      (omega (arith, c.requires.0), (subst Ranged (sym (take_more_set s.held s.count p lt)) (ranged_push (take s.count s.held) p c.requires.1.0 c.requires.1.1 s.near), tt)),
-    )
+    let lt : s.count < length s.held = omega (arith, c.requires.0) in
+    record {
+      full = length-set s.held s.count p ∙ full;
+      few = omega (arith, c.requires.0);
+      near = subst Ranged (sym (take_more_set s.held s.count p lt)) (ranged_push (take s.count s.held) p c.requires.1.0 c.requires.1.1 s.near);
+    }
 
 pub returns : goal.returns
 returns g c =

@@ -17,4 +17,8 @@ loop-i-preserved g c =
     (inv.0, inv.1, sends_more N s.below s.held i c.loop-i.self.below c.note.new.self (omega arith) inv.2 one)
 
 pub invariant_of-self-2 : goal.invariant_of-self-2
-invariant_of-self-2 g c = (c.loop-i.self.full, (omega arith, (ranged_none, tt)))
+invariant_of-self-2 g c = record {
+  full = c.loop-i.self.full;
+  few = omega arith;
+  near = ranged_none;
+}

@@ -15,19 +15,15 @@ invariant_of-self c =
     let h = cleared_kept s.words vs d c.clear.ensures in
     let cars : length s.counts ≡ 64 = s.cars in
     let flags : length s.overflown ≡ 64 = s.flags in
-    let at = s.counted d c.requires in (
-      omega arith,
-      (
-        length-set s.overflown d _ ∙ flags,
-        (
-          length-set s.counts d _ ∙ cars,
-          (
-            counted_less s.words vs s.counts d (omega (arith, c.requires)) h s.counted,
-            (omega (arith, at, s.tallied, places_less s.words vs d c.requires h), (omega (arith, s.room), tt)),
-          ),
-        ),
-      ),
-    )
+    let at = s.counted d c.requires in
+    record {
+      full = omega arith;
+      flags = length-set s.overflown d _ ∙ flags;
+      cars = length-set s.counts d _ ∙ cars;
+      counted = counted_less s.words vs s.counts d (omega (arith, c.requires)) h s.counted;
+      tallied = omega (arith, at, s.tallied, places_less s.words vs d c.requires h);
+      room = omega (arith, s.room);
+    }
 
 pub returns : goal.returns
 returns c =

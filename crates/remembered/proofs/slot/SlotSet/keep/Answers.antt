@@ -16,16 +16,12 @@ invariant_of-self c =
     let vs = c.mark.new.words in
     let n = new_parts s.words s.overflown d a c.requires.0 in
     let h = marked-kept s.words vs d a n.0 n.1 c.mark.ensures in
-    let cars : length s.counts ≡ 64 = s.cars in (
-      omega arith,
-      (
-        s.flags,
-        (
-          length-set s.counts d _ ∙ cars,
-          (
-            counted_more s.words vs s.counts d a n.1 (omega (arith, n.0)) n.2 h s.counted,
-            (omega (arith, s.tallied, places_more s.words vs d a n.0 n.1 n.2 h), (omega (arith, c.requires.1), tt)),
-          ),
-        ),
-      ),
-    )
+    let cars : length s.counts ≡ 64 = s.cars in
+    record {
+      full = omega arith;
+      flags = s.flags;
+      cars = length-set s.counts d _ ∙ cars;
+      counted = counted_more s.words vs s.counts d a n.1 (omega (arith, n.0)) n.2 h s.counted;
+      tallied = omega (arith, s.tallied, places_more s.words vs d a n.0 n.1 n.2 h);
+      room = omega (arith, c.requires.1);
+    }

@@ -6,10 +6,15 @@ use Rattle.remembered.proofs.slot.SlotSetRememberedSet.empty.Goals as goal
 
 pub invariant_of-result : goal.invariant_of-result
 invariant_of-result c =
-    let w = c.no_words.ensures in (
-      ap length w,
-      (ap length c.no_flags.ensures, (refl, (λ d h. zeros 64 d ∙ sym (ap (λ l. kept_of l d) w ∙ zeros_of d), (sym (ap places w ∙ zeros_places), (omega arith, tt))))),
-    )
+    let w = c.no_words.ensures in
+    record {
+      full = ap length w;
+      flags = ap length c.no_flags.ensures;
+      cars = refl;
+      counted = λ d h. zeros 64 d ∙ sym (ap (λ l. kept_of l d) w ∙ zeros_of d);
+      tallied = sym (ap places w ∙ zeros_places);
+      room = omega arith;
+    }
 
 pub returns : goal.returns
 returns c =
