@@ -1,6 +1,7 @@
 // Plays the script on standard input with the slot set, and writes the play to standard output.
 #![tactic(auto)]
 
+use anyhow::anyhow;
 use scanner::{Choice, PlayError, Trouble, play};
 use std::io;
 use std::io::{Read, Write};
@@ -30,7 +31,7 @@ fn run(rt: &HostRuntime) -> anyhow::Result<()> {
             rt.stdout().write_all(output.as_slice())?;
             Ok(())
         }
-        Err(error) => Err(message(error).into()),
+        Err(error) => Err(anyhow!(message(error))),
     }
 }
 

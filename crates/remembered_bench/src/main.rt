@@ -31,7 +31,7 @@ fn run_set<R: RememberedSet + Drop>(
 }
 
 fn run_plain(rt: &HostRuntime, rounds: u32) -> anyhow::Result<Run> {
-    let mut table = [false; 524288];
+    let mut table = vec![in rt.alloc(); false; 524288]?;
     let start = Instant::now(rt)?;
     let pairs = plain::with_table(&mut table, rounds);
     let nanos = start.elapsed(rt)?.as_nanos();

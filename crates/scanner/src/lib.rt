@@ -1,7 +1,7 @@
 // A second player of the whole system, kept simple: it finds references by looking at every object.
 #![tactic(auto)]
 
-mod calls;
+mod answering;
 mod carry;
 mod claims;
 mod objects;
