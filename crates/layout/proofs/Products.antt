@@ -1,5 +1,5 @@
 -- The product's shapes, number by number.
-use Rattle.std.proofs.Common.{◌≡◌, ℕ, ◌-◌, true, refl, inl, inr, arith}
+use Rattle.std.proofs.Common.{◌≡◌, ℕ, true, refl, inl, inr, arith}
 use Rattle.std.proofs.lemmas.Bool.Decides.{nat_tests}
 use Rattle.layout.specs.Record.{record_admits}
 use Rattle.layout.specs.Array.{array_admits}

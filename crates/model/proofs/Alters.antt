@@ -1,5 +1,5 @@
 -- A changed reference or data word moves no object and changes no size.
-use Rattle.std.proofs.Common.{◌≡◌, ℕ, zero, suc, ◌+◌, Bool, true, false, cond, eqb, List, [], ◌∷◌, ◌++◌, length, get_or, set, Some, None, Option, sym, refl, ap, ◌∙◌, ap₂, arith, length-set}
+use Rattle.std.proofs.Common.{◌≡◌, ℕ, zero, suc, Bool, true, false, cond, eqb, List, [], ◌∷◌, ◌++◌, length, get_or, set, Some, None, Option, sym, refl, ap, ◌∙◌, ap₂, arith, length-set}
 use Rattle.model.specs.Bodies.{Body, size, with_ref, with_value}
 use Rattle.model.specs.Trains.{Obj, Train, Trains, train_objects, objects, total, obj_size, words_of, times, is, alter_object, alter_objects, alter_train, alter}
 use Rattle.model.specs.Sound.{All, Filled, AllFilled, Standing, first_objects}

@@ -2,7 +2,7 @@
 use Rattle.std.proofs.Common.{◌≡◌, ℕ, zero, suc, ◌+◌, ◌≤◌, Bool, true, false, cond, eqb, ◌⊎◌, List, [], ◌∷◌, ◌++◌, length, get_or, Some, None, Option, sym, refl, ap, ◌∙◌, subst, inl, inr, arith, length-append}
 use Rattle.std.proofs.lemmas.Bool.{ne_eqb, eq-eqb}
 use Rattle.model.specs.Trains.{Obj, Train, Trains, train_objects, objects, total, times, is, one_if}
-use Rattle.model.specs.Claims.{sort_out, take_out, then, visit, close, claim, Wish, Claim, all_to, claims, ref_wishes, object_wishes, train_wishes, trains_wishes}
+use Rattle.model.specs.Claims.{sort_out, take_out, visit, close, claim, Wish, Claim, all_to, claims, ref_wishes, object_wishes, train_wishes, trains_wishes}
 use Rattle.model.specs.Step.{claimed, out_of, is_zero}
 use Rattle.model.proofs.Totals.{take_out-total, visit-total, close-total, claim-total, claims-total}
 use Rattle.model.specs.Sound.{All, Points}

@@ -2,7 +2,7 @@
 use Rattle.std.proofs.Common.{◌≡◌, ℕ, ◌+◌, ◌<◌, ◌≤◌, Bool, true, false, List, [], ◌∷◌, ◌++◌, length, Some, None, Option, sym, refl, ap, ◌∙◌, subst, inl, inr, append_assoc, arith}
 use Rattle.std.proofs.lemmas.Bool.{ltb-true, ltb-false}
 use Rattle.model.specs.Bodies.{Roots}
-use Rattle.model.specs.Trains.{Obj, Car, Train, Trains, objects, times, among, arrival, most_trains}
+use Rattle.model.specs.Trains.{Obj, Car, Train, Trains, times, among, arrival, most_trains}
 use Rattle.model.specs.Claims.{Wish, Claim, ref_wishes, object_wishes, train_wishes, trains_wishes, claim, all_to, claims}
 use Rattle.model.specs.Step.{Mark, first_to, outside, mark_wishes, wishes}
 use Rattle.model.specs.Sound.{Marked}

@@ -1,5 +1,5 @@
 -- Each call keeps the remembered set complete, so no reference is overlooked.
-use Rattle.std.proofs.Common.{◌≡◌, ℕ, zero, suc, ◌+◌, ◌*◌, ◌<◌, ◌≤◌, Bool, true, false, cond, eqb, List, [], ◌∷◌, ◌++◌, length, get_or, set, replicate, Some, None, Option, sym, refl, ap, ◌∙◌, subst, arith, length-set}
+use Rattle.std.proofs.Common.{◌≡◌, ℕ, zero, suc, ◌+◌, ◌*◌, ◌<◌, ◌≤◌, Bool, true, false, cond, eqb, List, [], ◌∷◌, ◌++◌, length, get_or, replicate, Some, None, Option, sym, refl, ap, ◌∙◌, subst, arith, length-set}
 use lib.ListN.{length-replicate}
 use Rattle.std.proofs.lemmas.Bool.{eqb-false, ltb-false, or_parts}
 use Rattle.layout.specs.Meaning.{Meaning, Lawful}
@@ -7,7 +7,7 @@ use Rattle.remembered.specs.Meaning.{Row, forget}
 use Rattle.remembered.specs.Meaning.{Meaning as Remembers, Lawful as RemembersLawfully}
 use Rattle.model.specs.Calls.{Call, make, access, step, tally, History}
 use Rattle.model.specs.Bodies.{Shape, Body, fresh, size, with_ref, with_value, is_root, Effect, leave, hold, point, store, reply_of}
-use Rattle.model.specs.Trains.{Distinct, Obj, Car, Train, Trains, train_objects, objects, words_of, words_in_use, obj_size, times, is, among, car_numbers, numbers, one_of, lowest_free, place_at, arrival, inside, alter, car_words}
+use Rattle.model.specs.Trains.{Distinct, Obj, Car, Train, Trains, train_objects, objects, words_of, words_in_use, obj_size, times, among, car_numbers, numbers, one_of, lowest_free, place_at, arrival, inside, alter, car_words}
 use Rattle.model.specs.Claims.{Wish, Claim}
 use Rattle.model.specs.Step.{first_to, outside, wishes, claimed, place_all}
 use Rattle.model.specs.Notes.{Seat, seat, Slot, train_slots, slots, notes, target_among, touched, is_slot, tell, forget_all}

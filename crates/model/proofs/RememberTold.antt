@@ -1,5 +1,5 @@
 -- What a remembered set has after notes and forgets.
-use Rattle.std.proofs.Common.{◌≡◌, ℕ, ◌+◌, ◌<◌, Bool, true, false, eqb, ltb, List, [], ◌∷◌, ◌++◌, Some, None, Option, sym, refl, subst}
+use Rattle.std.proofs.Common.{◌≡◌, ℕ, ◌<◌, Bool, true, false, eqb, ltb, List, [], ◌∷◌, ◌++◌, Some, None, Option, sym, refl, subst}
 use Rattle.std.proofs.lemmas.Bool.{both_ways, eqb-false, or_parts, lt-ltb}
 use Rattle.remembered.specs.Meaning.{Told, note, forget, Row}
 use Rattle.remembered.specs.Meaning.{Meaning as Remembers, Lawful as RemembersLawfully}

@@ -3,7 +3,7 @@ use Rattle.std.proofs.Common.{◌≡◌, ℕ, zero, suc, ◌+◌, ◌<◌, ◌�
 use Rattle.std.proofs.lemmas.Bool.{eqb-true, eqb-false, leb-false, lt-leb, both_ways}
 use Rattle.layout.specs.Meaning.{Meaning, Lawful}
 use Rattle.remembered.specs.Meaning.{Meaning as Remembers}
-use Rattle.model.specs.Calls.{Call, make, access, step, tally, Access, link, follow, drop, put, lift, get, words, same, full, refused, alike, Answer, History, is_full}
+use Rattle.model.specs.Calls.{Call, make, access, step, tally, Access, link, follow, drop, put, lift, get, words, same, full, refused, Answer, History, is_full}
 use Rattle.model.specs.Bodies.{Body, Roots, held, fresh, size, with_ref, with_value, is_root, Effect, leave, hold, point, store, Reply, object_of, with_body, reply_of}
 use Rattle.model.specs.Plain.{Graph, no_entries, entry, alter_entry, with_effect, plain_make, plain, graph_of}
 use Rattle.model.specs.Trains.{Obj, Train, Trains, train_objects, objects, words_in_use, times, is, one_if, inside, alter, alter_object, arrival, numbers, lowest_free, capacity}

@@ -2,10 +2,10 @@
 use Rattle.std.specs.Prelude.{◌≡◌, ℕ, zero, suc, ◌+◌, ◌-◌, ◌*◌, ◌<◌, ◌≤◌, true, false, List, [], ◌∷◌, ◌++◌, length, take, Some, None, Option, slice_index_or}
 use Rattle.layout.specs.Meaning.{Meaning, Lawful}
 use Rattle.remembered.specs.Meaning.{Meaning as Remembers}
-use Rattle.model.specs.Calls.{Call, make, access, step, tally, root, shape, full, refused, report, Report, Answer, Event, History, is_full}
+use Rattle.model.specs.Calls.{Call, make, access, step, tally, full, refused, report, Report, Answer, Event, History, is_full}
 use Rattle.model.specs.Bodies.{Body, fresh, size, is_root}
 use Rattle.model.specs.Plain.{Graph, graph_of, plain, entry}
-use Rattle.model.specs.Trains.{Trains, train_objects, objects, words_in_use, cars_in_use, numbers, one_of, Distinct, times, inside, capacity, car_count, car_words}
+use Rattle.model.specs.Trains.{Trains, train_objects, words_in_use, cars_in_use, numbers, one_of, Distinct, times, inside, capacity, car_count, car_words}
 use Rattle.model.specs.Step.{Mark, place_all}
 use Rattle.model.specs.Space.{Model, space_of, Use, all_objects, carried}
 use Rattle.model.specs.Sound.{Sound}

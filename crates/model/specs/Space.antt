@@ -1,5 +1,5 @@
 -- The space: roots, trains, the mark, and what the remembered set was told; and what each call does to it.
-use Rattle.std.specs.Prelude.{◌≡◌, ℕ, suc, ◌+◌, Bool, true, false, List, [], ◌∷◌, length, set, replicate, Some, None, Option, nat_le, slice_set}
+use Rattle.std.specs.Prelude.{◌≡◌, ℕ, suc, ◌+◌, Bool, true, false, List, [], ◌∷◌, length, replicate, Some, None, Option, nat_le, slice_set}
 use Rattle.layout.specs.Meaning.{Meaning}
 use Rattle.remembered.specs.Meaning.{Row, forget, pairs_of}
 use Rattle.remembered.specs.Meaning.{Meaning as Remembers}

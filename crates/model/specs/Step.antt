@@ -1,7 +1,7 @@
 -- A step: the first car of the first train is emptied and freed.
 use Rattle.std.specs.Prelude.{ℕ, zero, suc, ◌+◌, Bool, true, false, cond, List, [], ◌∷◌, ◌++◌, Some, None, Option, ◌==◌}
 use Rattle.model.specs.Bodies.{Roots}
-use Rattle.model.specs.Trains.{Obj, Car, Train, Trains, objects, words_of, numbers, lowest_free, place_at, arrival, among}
+use Rattle.model.specs.Trains.{Obj, Car, Train, Trains, words_of, numbers, lowest_free, place_at, arrival, among}
 use Rattle.model.specs.Claims.{Wish, ref_wishes, train_wishes, trains_wishes, Claim}
 
 -- the marked object and the rank that it is to go to

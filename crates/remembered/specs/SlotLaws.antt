@@ -1,11 +1,11 @@
 -- Laws of the slot set.
-use Rattle.std.specs.Prelude.{◌≡◌, ℕ, zero, suc, ◌+◌, ◌-◌, ◌*◌, ◌/◌, ◌%◌, ◌<◌, ◌≤◌, Bool, true, false, cond, not, ◌&&◌, ◌||◌, ltb, ◌⊎◌, List, [], ◌∷◌, length, get_or, set, replicate, ◌==◌, ◌≢◌, nat_le, nat_lt, slice_index, slice_index_or, slice_set, refl}
+use Rattle.std.specs.Prelude.{◌≡◌, ℕ, zero, suc, ◌+◌, ◌*◌, ◌/◌, ◌%◌, ◌<◌, ◌≤◌, Bool, true, false, cond, not, ◌&&◌, ◌||◌, ltb, List, [], ◌∷◌, length, get_or, replicate, ◌==◌, ◌≢◌, nat_le, nat_lt, slice_index, slice_index_or, slice_set, refl}
 use Rattle.std.proofs.Common.{sym, ap, subst, ◌∙◌, ⊎_elim, arith}
 use Rattle.std.proofs.lemmas.List.{get_or-set_same, get_or-set_other}
 use Rattle.std.proofs.lemmas.Bool.{cases_eq, cases_Bool, eq-eqb, ne_eqb, eqb-true, and_from, and_left, and_right, and_parts, ltb-true, le-ltb, ltb-false, or_left, or_right, or_cases, or_from, or_parts, both_ways, not-true, not-false, and_cases, cond-true, cond-false}
 use Rattle.remembered.specs.Bits.{bit_in, bit, Marked, Cleared}
 use Rattle.remembered.specs.Laws.{in_range, new_in}
-use Rattle.remembered.specs.Meaning.{note, forget, Lawful}
+use Rattle.remembered.specs.Meaning.{Lawful}
 use Rattle.remembered.specs.Pairs.{pair, is_pair, within}
 use Rattle.remembered.specs.Slots.{Slots, slot_in, slot_add, slot_note, slot_forget, slot_run, slot_has, kept, slot_pairs, kept_of, places, SlotNoted, SlotForgot, SlotStands}
 use Rattle.remembered.specs.CardLaws.{range_from, range_parts}
