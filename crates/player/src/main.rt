@@ -5,6 +5,7 @@ use anyhow::anyhow;
 use scanner::{Choice, PlayError, Trouble, play};
 use std::io;
 use std::io::{Read, Write};
+use std::process::ExitCode;
 
 // One byte more than a script may have, so that a longer one is refused without being read to its end.
 const MOST_READ: u64 = 32_769;
@@ -35,12 +36,13 @@ fn run(rt: &HostRuntime) -> anyhow::Result<()> {
     }
 }
 
-fn main(rt: HostRuntime) -> anyhow::Result<()> {
+// An error is told in one line here, so `main` returns a status: an `Err` would be printed once more.
+fn main(rt: HostRuntime) -> io::Result<ExitCode> {
     match run(&rt) {
-        Ok(()) => Ok(()),
+        Ok(()) => Ok(ExitCode::SUCCESS),
         Err(error) => {
             eprintln!(rt; "player: {error}")?;
-            Err(error)
+            Ok(ExitCode::FAILURE)
         }
     }
 }
