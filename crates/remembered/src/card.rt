@@ -3,7 +3,7 @@ ghost use Rattle.std.specs.Prelude.{◌≡◌, ◌*◌, ◌/◌, ◌<◌, length
 ghost use Rattle.remembered.specs.Cards.{card_has, marked, CardNoted, CardForgot, CardTold};
 ghost use Rattle.remembered.specs.Laws.{new_in};
 ghost use Rattle.remembered.specs.CardLaws.{card_lawful, card_tells, card_forgets};
-ghost use Rattle.std.proofs.Common.{rules, arith};
+ghost use Rattle.std.proofs.Common.{rules};
 
 use crate::RememberedSet;
 use crate::bits::{bit_at, clear, mark, next_bit};
@@ -50,17 +50,17 @@ impl RememberedSet for CardSet {
 
     ghost told = { λ s r. CardTold s.cards r };
 
-    ghost bounded = { first_of (Prim.search rules, Prim.grind (arith, Self.row.coded.inj)) };
+    ghost bounded = { Prim.search rules };
 
-    ghost keeps = { first_of (Prim.search rules, Prim.grind (arith, Self.row.coded.inj)) };
+    ghost keeps = { Prim.search rules };
 
-    ghost gains = { first_of (Prim.search rules, Prim.grind (arith, Self.row.coded.inj)) };
+    ghost gains = { Prim.search rules };
 
-    ghost others = { first_of (Prim.search rules, Prim.grind (arith, Self.row.coded.inj)) };
+    ghost others = { Prim.search rules };
 
     ghost lawful = { card_lawful };
 
-    ghost agrees = { first_of (Prim.search rules, Prim.grind (arith, Self.row.coded.inj)) };
+    ghost agrees = { Prim.search rules };
 
     ghost tells = { λ s t c a r n h. card_tells s.cards t.cards c a r n h };
 

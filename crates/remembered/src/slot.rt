@@ -3,7 +3,7 @@ ghost use Rattle.std.specs.Prelude.{◌≡◌, ℕ, ◌+◌, ◌-◌, ◌*◌, �
 ghost use Rattle.remembered.specs.Laws.{new_in};
 ghost use Rattle.remembered.specs.Slots.{slot_has, slot_run, slot_pairs, kept, kept_of, places, SlotNoted, SlotForgot, SlotStands};
 ghost use Rattle.remembered.specs.SlotLaws.{slot_keeps, slot_gains, slot_others, slot_lawful, slot_agrees, slot_tells, slot_forgets};
-ghost use Rattle.std.proofs.Common.{rules, arith};
+ghost use Rattle.std.proofs.Common.{rules};
 
 use crate::RememberedSet;
 use crate::bits::{bit_at, clear, mark, next_bit};
@@ -99,7 +99,7 @@ impl RememberedSet for SlotSet {
 
     ghost told = { λ s r. SlotStands s.words s.overflown s.used (slot_run r) };
 
-    ghost bounded = { first_of (Prim.search rules, Prim.grind (arith, Self.row.coded.inj)) };
+    ghost bounded = { Prim.search rules };
 
     ghost keeps = { λ s t c a n. slot_keeps s.words s.overflown s.used c a t.words t.overflown t.used n };
 
