@@ -1,14 +1,12 @@
 -- Numbers as a script and an output line have them.
-use Rattle.std.specs.Prelude.{◌≡◌, ℕ, zero, suc, ◌+◌, ◌-◌, ◌*◌, ◌/◌, ◌%◌, ◌≤◌, Bool, true, false, cond, not, ◌&&◌, List, [], ◌∷◌, ◌++◌, ℤ, pos, negsuc, Some, None, Option, ◌==◌, nat_le}
-
--- a digit's byte is from 48 to 57
-abbrev pub is_digit : ℕ → Bool
-is_digit c = nat_le 48 c && nat_le c 57
+use Rattle.std.specs.Prelude.{◌≡◌, ℕ, zero, suc, ◌+◌, ◌-◌, ◌*◌, ◌≤◌, Bool, true, false, cond, not, ◌&&◌, List, [], ◌∷◌, ℤ, pos, negsuc, Some, None, Option, ◌==◌, nat_le}
+use Rattle.std.specs.Char.{is_ascii_digit}
+use Rattle.std.specs.Fmt.{decimal, signed_decimal}
 
 -- n and then these digits, as long as that is at most 4,294,967,295
 abbrev pub onward : ℕ → List ℕ → Option ℕ
 onward n [] = Some n
-onward n (c ∷ cs) = cond (is_digit c && nat_le (n * 10 + (c - 48)) 4294967295) (onward (n * 10 + (c - 48)) cs) None
+onward n (c ∷ cs) = cond (is_ascii_digit c && nat_le (n * 10 + (c - 48)) 4294967295) (onward (n * 10 + (c - 48)) cs) None
 
 -- there is a byte, and no 0 in front of another
 abbrev pub no_leading_zero : List ℕ → Bool
@@ -36,20 +34,6 @@ abbrev pub integer_of : List ℕ → Option ℤ
 integer_of [] = None
 integer_of (c ∷ cs) = cond (c == 45) (minus (natural_of cs)) (plus (natural_of (c ∷ cs)))
 
--- at most k digits of n: those of its tenth part, if that is not 0, then its last digit
-abbrev pub digits_by : ℕ → ℕ → List ℕ
-digits_by zero n = []
-digits_by (suc k) n = elim (n / 10 == 0) [ true ↦ [] | false ↦ digits_by k (n / 10) ] ++ (48 + n % 10) ∷ []
-
--- the digits of a number; none of 64 bits has more than 20
-unfoldable pub digits_of : ℕ → List ℕ
-digits_of n = digits_by 20 n
-
--- a number as a script has it: a minus sign before the digits of a negative one
-abbrev pub signed_digits : ℤ → List ℕ
-signed_digits (pos n) = digits_of n
-signed_digits (negsuc n) = 45 ∷ digits_of (suc n)
-
 -- from -2,147,483,648 to 2,147,483,647
 abbrev pub FitsLift : ℤ → Type 0
 FitsLift (pos n) = n ≤ 2147483647
@@ -57,7 +41,7 @@ FitsLift (negsuc n) = n ≤ 2147483647
 
 -- each number in range is read from its digits, and from no other bytes
 pub record NumbersReadBack : Type 0 where
-  pub natural_back : (n : ℕ) → n ≤ 4294967295 → natural_of (digits_of n) ≡ Some n
-  pub natural_only : (text : List ℕ) (n : ℕ) → natural_of text ≡ Some n → (text ≡ digits_of n) × (n ≤ 4294967295)
-  pub integer_back : (z : ℤ) → FitsLift z → integer_of (signed_digits z) ≡ Some z
-  pub integer_only : (text : List ℕ) (z : ℤ) → integer_of text ≡ Some z → (text ≡ signed_digits z) × FitsLift z
+  pub natural_back : (n : ℕ) → n ≤ 4294967295 → natural_of (decimal n) ≡ Some n
+  pub natural_only : (text : List ℕ) (n : ℕ) → natural_of text ≡ Some n → (text ≡ decimal n) × (n ≤ 4294967295)
+  pub integer_back : (z : ℤ) → FitsLift z → integer_of (signed_decimal z) ≡ Some z
+  pub integer_only : (text : List ℕ) (z : ℤ) → integer_of text ≡ Some z → (text ≡ signed_decimal z) × FitsLift z

@@ -2,18 +2,26 @@
 ghost use Rattle.std.specs.Prelude.{◌≡◌};
 ghost use Rattle.calls.specs.Answers.{refusal_number};
 
-// Why a call was refused; `number` is what a line shows and what C is told.
+/// Why a call was refused; `number` is what a line shows and what C is told.
 #[derive(Clone, Copy, PartialEq, Eq, Debug)]
 pub enum Refusal {
+    /// There is no such root.
     Root,
+    /// The root holds no object.
     Empty,
+    /// The object has no such slot or data word.
     Missing,
+    /// No object has that kind and those numbers.
     Shape,
+    /// There is no room for the object.
     Full,
+    /// The lifted word would lie outside 0 to 4,294,967,295.
     Range,
+    /// The buffer is too short.
     Buffer,
 }
 
+/// What a step freed: nothing, the whole first train, or its first car.
 #[derive(Clone, Copy, PartialEq, Eq, Debug)]
 pub enum Freed {
     Idle,
@@ -21,7 +29,9 @@ pub enum Freed {
     Car,
 }
 
-// A step's report. A car has at most 64 objects and 128 words, a train at most 1,536 objects and 64 cars.
+/// A step's report: what it freed, how many objects left the first train and how many went back into it, how many
+/// words were copied, how many objects were lost, at how many pairs it looked, and how many cars it freed.
+/// A car has at most 64 objects and 128 words, a train at most 1,536 objects and 64 cars.
 #[derive(Clone, Copy, PartialEq, Eq, Debug)]
 pub struct Report {
     pub kind: Freed,
@@ -33,6 +43,7 @@ pub struct Report {
     pub cars: u8,
 }
 
+/// How many words, cars and trains are in use, and whether a mark stands.
 #[derive(Clone, Copy, PartialEq, Eq, Debug)]
 pub struct Usage {
     pub words: u32,
@@ -41,6 +52,7 @@ pub struct Usage {
     pub mark: bool,
 }
 
+/// What a call answers.
 #[derive(Clone, Copy, PartialEq, Eq, Debug)]
 pub enum Answer {
     Refused(Refusal),
@@ -52,6 +64,7 @@ pub enum Answer {
 }
 
 impl Refusal {
+    /// The refusal's number, from 1 to 7.
     pub fn number(self) -> u8
         ensures { result ≡ refusal_number self }
     {
