@@ -1,5 +1,5 @@
 -- The output lines, and where they are written.
-use Rattle.std.specs.Prelude.{◌≡◌, ℕ, ◌+◌, ◌<◌, ◌≤◌, Bool, cond, List, [], ◌∷◌, ◌++◌, length, take, drop, Some, None, codes, Option}
+use Rattle.std.specs.Prelude.{◌≡◌, ℕ, ◌+◌, ◌<◌, ◌≤◌, Bool, List, [], ◌∷◌, ◌++◌, length, take, drop, Some, None, codes, Option}
 use Rattle.calls.specs.declared.answer.Answer.{Answer}
 use Rattle.calls.specs.declared.answer.Answer.TheVariants.{Refused, Done, Value, Same, Tally, Step}
 use Rattle.calls.specs.declared.answer.Freed.{Freed}
@@ -9,6 +9,7 @@ use Rattle.calls.specs.declared.faults.PlayerFault.TheVariants.{Reader}
 use Rattle.calls.specs.Faults as faults
 use Rattle.calls.specs.Answers.{refusal_number}
 use Rattle.std.specs.Fmt.{decimal}
+use Rattle.std.specs.Int.{from_bool}
 
 -- the kind of a step's report
 abbrev pub freed_word : Freed → List ℕ
@@ -18,7 +19,7 @@ freed_word Car = codes "car"
 
 -- yes is 1, and no is 0
 abbrev pub flag : Bool → List ℕ
-flag b = decimal (cond b 1 0)
+flag b = decimal (from_bool b)
 
 -- a space before each part, and byte 10 behind the last
 abbrev pub spaced : List (List ℕ) → List ℕ
@@ -28,11 +29,7 @@ spaced (p ∷ ps) = 32 ∷ (p ++ spaced ps)
 -- 0, or the number of the refusal
 abbrev pub code_of : Answer → ℕ
 code_of (Refused r) = refusal_number r
-code_of Done = 0
-code_of (Value n) = 0
-code_of (Same b) = 0
-code_of (Tally u) = 0
-code_of (Step s) = 0
+code_of _ = 0
 
 -- what stands behind the code
 abbrev pub parts : Answer → List (List ℕ)

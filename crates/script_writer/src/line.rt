@@ -10,6 +10,7 @@ use std::marker::Model;
 /// How many bytes stand free where a line is written; no line has more, byte 10 included.
 pub const LINE_ROOM: usize = 64;
 
+// Each method adds to the end. The line is copied once, since a buffer that is lent through every call reads worse.
 #[derive(Drop)]
 pub struct Line {
     text: ArrayString<LINE_ROOM>,
@@ -38,7 +39,7 @@ impl Line {
         self.text.push_str(text);
     }
 
-    pub fn number<I: Integer>(&mut self, n: I)
+    pub fn digits<I: Integer>(&mut self, n: I)
         requires { length self.old + I.MAX_STR_LEN ≤ LINE_ROOM }
         ensures written { self.new ≡ self.old ++ I.text n }
         ensures short { length self.new ≤ length self.old + I.MAX_STR_LEN }
@@ -46,14 +47,23 @@ impl Line {
         self.text(Buffer::new().format(n));
     }
 
-    // A space and a number.
-    pub fn part<I: Integer>(&mut self, n: I)
+    // A text behind a space.
+    pub fn word(&mut self, text: &str)
+        requires { length self.old + 1 + length text.now ≤ LINE_ROOM }
+        ensures { self.new ≡ self.old ++ 32 ∷ text.now }
+    {
+        self.text(" ");
+        self.text(text);
+    }
+
+    // A number behind a space.
+    pub fn number<I: Integer>(&mut self, n: I)
         requires { length self.old + 1 + I.MAX_STR_LEN ≤ LINE_ROOM }
         ensures written { self.new ≡ self.old ++ 32 ∷ I.text n }
         ensures short { length self.new ≤ length self.old + 1 + I.MAX_STR_LEN }
     {
         self.text(" ");
-        self.number(n);
+        self.digits(n);
     }
 
     // Ends the line and copies it to `at`, or gives none where fewer than 64 bytes stand there.
@@ -64,7 +74,7 @@ impl Line {
         if out.len().saturating_sub(at) < LINE_ROOM {
             return None;
         }
-        self.text.push_str("\n");
+        self.text("\n");
         let end = at + self.text.len();
         out[at..end].copy_from_slice(self.text.as_str().as_bytes());
         Some(end)

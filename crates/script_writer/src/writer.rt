@@ -8,15 +8,14 @@ use calls::{Answer, Freed, PlayerFault};
 
 pub use crate::line::LINE_ROOM;
 
-// A step's kind behind a space.
-fn freed_part(kind: Freed) -> &'static str
-    ensures word { result.now ≡ 32 ∷ freed_word kind }
-    ensures short { length result.now ≤ 6 }
+fn freed_name(kind: Freed) -> &'static str
+    ensures word { result.now ≡ freed_word kind }
+    ensures short { length result.now ≤ 5 }
 {
     match kind {
-        Freed::Idle => " idle",
-        Freed::Train => " train",
-        Freed::Car => " car",
+        Freed::Idle => "idle",
+        Freed::Train => "train",
+        Freed::Car => "car",
     }
 }
 
@@ -27,32 +26,32 @@ fn put_answer(line: &mut Line, answer: Answer)
     ensures short { length line.new < LINE_ROOM }
 {
     match answer {
-        Answer::Refused(refusal) => line.number(refusal.number()),
+        Answer::Refused(refusal) => line.digits(refusal.number()),
         Answer::Done => line.text("0"),
         Answer::Value(value) => {
             line.text("0");
-            line.part(value);
+            line.number(value);
         }
         Answer::Same(same) => {
             line.text("0");
-            line.part(u8::from(same));
+            line.number(u8::from(same));
         }
         Answer::Tally(usage) => {
             line.text("0");
-            line.part(usage.words);
-            line.part(usage.cars);
-            line.part(usage.trains);
-            line.part(u8::from(usage.mark));
+            line.number(usage.words);
+            line.number(usage.cars);
+            line.number(usage.trains);
+            line.number(u8::from(usage.mark));
         }
         Answer::Step(report) => {
             line.text("0");
-            line.text(freed_part(report.kind));
-            line.part(report.out);
-            line.part(report.back);
-            line.part(report.copied);
-            line.part(report.lost);
-            line.part(report.looked);
-            line.part(report.cars);
+            line.word(freed_name(report.kind));
+            line.number(report.out);
+            line.number(report.back);
+            line.number(report.copied);
+            line.number(report.lost);
+            line.number(report.looked);
+            line.number(report.cars);
         }
     }
 }
@@ -64,11 +63,11 @@ fn put_fault(line: &mut Line, fault: PlayerFault)
 {
     let PlayerFault::Reader(fault) = fault;
     line.text("reader");
-    line.part(fault.number());
-    line.text(" line");
-    line.part(fault.line());
-    line.text(" at");
-    line.part(fault.place());
+    line.number(fault.number());
+    line.word("line");
+    line.number(fault.line());
+    line.word("at");
+    line.number(fault.place());
 }
 
 /// Writes an answer's line at `at` and gives the place behind it, or none where fewer than 64 bytes stand there.
