@@ -1,14 +1,15 @@
 -- The output lines, and where they are written.
-use Rattle.std.specs.Prelude.{◌≡◌, ℕ, ◌+◌, ◌<◌, ◌≤◌, Bool, cond, List, [], ◌∷◌, ◌++◌, length, take, drop, Some, None, codes, Option}
+use Rattle.std.specs.Prelude.{◌≡◌, ℕ, ◌+◌, ◌<◌, ◌≤◌, Bool, List, [], ◌∷◌, ◌++◌, length, take, drop, Some, None, codes, Option}
 use Rattle.calls.specs.declared.answer.Answer.{Answer}
 use Rattle.calls.specs.declared.answer.Answer.TheVariants.{Refused, Done, Value, Same, Tally, Step}
 use Rattle.calls.specs.declared.answer.Freed.{Freed}
 use Rattle.calls.specs.declared.answer.Freed.TheVariants.{Idle, Train, Car}
-use Rattle.calls.specs.declared.faults.Layer.{Layer}
-use Rattle.calls.specs.declared.faults.Layer.TheVariants.{Reader}
 use Rattle.calls.specs.declared.faults.PlayerFault.{PlayerFault}
+use Rattle.calls.specs.declared.faults.PlayerFault.TheVariants.{Reader}
+use Rattle.calls.specs.Faults as faults
 use Rattle.calls.specs.Answers.{refusal_number}
-use Rattle.calls.specs.Numbers.{digits_of}
+use Rattle.std.specs.Fmt.{decimal}
+use Rattle.std.specs.Int.{from_bool}
 
 -- the kind of a step's report
 abbrev pub freed_word : Freed → List ℕ
@@ -16,13 +17,9 @@ freed_word Idle = codes "idle"
 freed_word Train = codes "train"
 freed_word Car = codes "car"
 
--- where a fault comes from
-abbrev pub layer_word : Layer → List ℕ
-layer_word Reader = codes "reader"
-
 -- yes is 1, and no is 0
 abbrev pub flag : Bool → List ℕ
-flag b = digits_of (cond b 1 0)
+flag b = decimal (from_bool b)
 
 -- a space before each part, and byte 10 behind the last
 abbrev pub spaced : List (List ℕ) → List ℕ
@@ -32,29 +29,25 @@ spaced (p ∷ ps) = 32 ∷ (p ++ spaced ps)
 -- 0, or the number of the refusal
 abbrev pub code_of : Answer → ℕ
 code_of (Refused r) = refusal_number r
-code_of Done = 0
-code_of (Value n) = 0
-code_of (Same b) = 0
-code_of (Tally u) = 0
-code_of (Step s) = 0
+code_of _ = 0
 
 -- what stands behind the code
 abbrev pub parts : Answer → List (List ℕ)
 parts (Refused r) = []
 parts Done = []
-parts (Value n) = digits_of n ∷ []
+parts (Value n) = decimal n ∷ []
 parts (Same b) = flag b ∷ []
-parts (Tally u) = digits_of u.words ∷ digits_of u.cars ∷ digits_of u.trains ∷ flag u.mark ∷ []
+parts (Tally u) = decimal u.words ∷ decimal u.cars ∷ decimal u.trains ∷ flag u.mark ∷ []
 parts (Step s) =
-    freed_word s.kind ∷ digits_of s.out ∷ digits_of s.back ∷ digits_of s.copied ∷ digits_of s.lost ∷ digits_of s.looked ∷ digits_of s.cars ∷ []
+    freed_word s.kind ∷ decimal s.out ∷ decimal s.back ∷ decimal s.copied ∷ decimal s.lost ∷ decimal s.looked ∷ decimal s.cars ∷ []
 
 -- the line that answers a call
 abbrev pub answer_line : Answer → List ℕ
-answer_line a = digits_of (code_of a) ++ spaced (parts a)
+answer_line a = decimal (code_of a) ++ spaced (parts a)
 
 -- the line that tells a fault, as `reader 9 line 4 at 8`
 abbrev pub fault_line : PlayerFault → List ℕ
-fault_line f = layer_word f.layer ++ spaced (digits_of f.number ∷ codes "line" ∷ digits_of f.line ∷ codes "at" ∷ digits_of f.place ∷ [])
+fault_line (Reader f) = codes "reader" ++ spaced (decimal (faults.fault_number f) ∷ codes "line" ∷ decimal (faults.fault_line f) ∷ codes "at" ∷ decimal (faults.fault_place f) ∷ [])
 
 -- the buffer with these bytes from `at` on, and all its other bytes as they were
 abbrev pub laid : List ℕ → ℕ → List ℕ → List ℕ
@@ -71,9 +64,3 @@ pub record WritesLineAt (before : List ℕ) (at : ℕ) (line after : List ℕ) (
 abbrev pub WritesLine : List ℕ → ℕ → List ℕ → List ℕ → Option ℕ → Type 0
 WritesLine before at line after None = (length before < at + 64) × (after ≡ before)
 WritesLine before at line after (Some next) = WritesLineAt before at line after next
-
--- some bytes are written, and next is the place behind them
-pub record Puts (before : List ℕ) (at : ℕ) (bytes after : List ℕ) (next : ℕ) : Type 0 where
-  pub fits : at + length bytes ≤ length before
-  pub bytes_at : after ≡ laid before at bytes
-  pub behind : next ≡ at + length bytes

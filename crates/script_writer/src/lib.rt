@@ -1,6 +1,7 @@
 // The lines that a play writes.
 #![tactic(auto)]
 
+mod line;
 pub mod writer;
 
 pub use writer::{LINE_ROOM, write_answer, write_fault};

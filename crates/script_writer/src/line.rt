@@ -1,0 +1,82 @@
+// A line under construction, apart from the buffer that it is written to.
+ghost use Rattle.std.specs.Prelude.{◌≡◌, ℕ, ◌+◌, ◌<◌, ◌≤◌, List, [], ◌∷◌, ◌++◌, length};
+ghost use Rattle.script_writer.specs.Writer.{WritesLine};
+ghost use Rattle.script_writer.specs.declared.line.TheConstants.{LINE_ROOM};
+
+use arrayvec::ArrayString;
+use itoa::{Buffer, Integer};
+use std::marker::Model;
+
+/// How many bytes stand free where a line is written; no line has more, byte 10 included.
+pub const LINE_ROOM: usize = 64;
+
+// Each method adds to the end. The line is copied once, since a buffer that is lent through every call reads worse.
+#[derive(Drop)]
+pub struct Line {
+    text: ArrayString<LINE_ROOM>,
+}
+
+// Clauses see the bytes.
+impl Model for Line {
+    ghost Value = { List ℕ };
+
+    ghost view = { λ l. l.text.bytes };
+}
+
+impl Line {
+    pub fn new() -> Self
+        ensures { result ≡ [] }
+    {
+        Line {
+            text: ArrayString::new(),
+        }
+    }
+
+    pub fn text(&mut self, text: &str)
+        requires { length self.old + length text.now ≤ LINE_ROOM }
+        ensures { self.new ≡ self.old ++ text.now }
+    {
+        self.text.push_str(text);
+    }
+
+    pub fn digits<I: Integer>(&mut self, n: I)
+        requires { length self.old + I.MAX_STR_LEN ≤ LINE_ROOM }
+        ensures written { self.new ≡ self.old ++ I.text n }
+        ensures short { length self.new ≤ length self.old + I.MAX_STR_LEN }
+    {
+        self.text(Buffer::new().format(n));
+    }
+
+    // A text behind a space.
+    pub fn word(&mut self, text: &str)
+        requires { length self.old + 1 + length text.now ≤ LINE_ROOM }
+        ensures { self.new ≡ self.old ++ 32 ∷ text.now }
+    {
+        self.text(" ");
+        self.text(text);
+    }
+
+    // A number behind a space.
+    pub fn number<I: Integer>(&mut self, n: I)
+        requires { length self.old + 1 + I.MAX_STR_LEN ≤ LINE_ROOM }
+        ensures written { self.new ≡ self.old ++ 32 ∷ I.text n }
+        ensures short { length self.new ≤ length self.old + 1 + I.MAX_STR_LEN }
+    {
+        self.text(" ");
+        self.digits(n);
+    }
+
+    // Ends the line and copies it to `at`, or gives none where fewer than 64 bytes stand there.
+    pub fn write(&mut self, out: &mut [u8], at: usize) -> Option<usize>
+        requires { length self.old < LINE_ROOM }
+        ensures { WritesLine out.old at (self.old ++ 10 ∷ []) out.new result }
+    {
+        if out.len().saturating_sub(at) < LINE_ROOM {
+            return None;
+        }
+        self.text("\n");
+        let end = at + self.text.len();
+        out[at..end].copy_from_slice(self.text.as_str().as_bytes());
+        Some(end)
+    }
+}
