@@ -1,17 +1,17 @@
 // Carrying objects out of the first car, in Cheney's order.
 use crate::claims::{Claim, Claims};
+use crate::failure::Failure;
 use crate::objects::{CAR_WORDS, ObjectId};
 use crate::space::Space;
-use crate::trouble::Trouble;
 use std::alloc::{AllocError, Global};
 
-// What a step has carried so far, in order of placing.
+/// What a step has carried so far, in order of placing.
 #[derive(Drop)]
-pub struct Carried {
-    pub objects: Vec<ObjectId>,
-    pub out: usize,
-    pub back: usize,
-    pub words: usize,
+pub(crate) struct Carried {
+    pub(crate) objects: Vec<ObjectId>,
+    pub(crate) out: u8,
+    pub(crate) back: u8,
+    pub(crate) words: usize,
 }
 
 impl Carried {
@@ -24,7 +24,7 @@ impl Carried {
         }
     }
 
-    fn add(&mut self, claim: Claim, size: usize) -> Result<(), Trouble> {
+    fn add(&mut self, claim: Claim, size: usize) -> Result<(), Failure> {
         self.objects.push(claim.object)?;
         self.words = self.words.saturating_add(size);
         if claim.rank == 0 {
@@ -37,37 +37,32 @@ impl Carried {
 }
 
 impl Space {
-    // Carries what is claimed out of the car `front`: by roots, by the mark, by other trains, by the first train itself.
-    pub fn carry_claimed(&mut self, front: usize, claims: &Claims) -> Result<Carried, Trouble> {
+    /// Carries what is claimed out of the car `front`: by roots, by the mark, by other trains, by the first train itself.
+    pub(crate) fn carry_claimed(
+        &mut self,
+        front: usize,
+        claims: &Claims,
+    ) -> Result<Carried, Failure> {
         let mut carried = Carried::none(self.heap);
-        self.carry_all(front, claims.of_roots.as_slice(), &mut carried)?;
-        if let Some(claim) = claims.of_mark {
-            self.carry(front, claim, &mut carried)?;
+        let in_order = claims
+            .of_roots
+            .iter()
+            .chain(&claims.of_mark)
+            .chain(&claims.of_other_trains)
+            .chain(&claims.of_first_train);
+        for claim in in_order {
+            self.carry(front, *claim, &mut carried)?;
         }
-        self.carry_all(front, claims.of_other_trains.as_slice(), &mut carried)?;
-        self.carry_all(front, claims.of_first_train.as_slice(), &mut carried)?;
         Ok(carried)
     }
 
-    fn carry_all(
-        &mut self,
-        front: usize,
-        claims: &[Claim],
-        carried: &mut Carried,
-    ) -> Result<(), Trouble> {
-        for claim in claims {
-            self.carry(front, *claim, carried)?;
-        }
-        Ok(())
-    }
-
     // Places the object in its train, then what its references hold of the car, and so on in order of placing.
-    fn carry(&mut self, front: usize, claim: Claim, carried: &mut Carried) -> Result<(), Trouble> {
+    fn carry(&mut self, front: usize, claim: Claim, carried: &mut Carried) -> Result<(), Failure> {
         let begin = carried.objects.len();
         self.carry_one(front, claim, carried)?;
-        // A car has fewer objects than words.
+        // The row grows while it is read, so it is read by number. A car has fewer objects than words.
         for turn in 0..CAR_WORDS {
-            let Some(object) = carried.objects.get(begin.saturating_add(turn)).copied() else {
+            let Some(&object) = carried.objects.get(begin.saturating_add(turn)) else {
                 break;
             };
             self.carry_held(front, object, claim.rank, carried)?;
@@ -82,25 +77,18 @@ impl Space {
         owner: ObjectId,
         rank: usize,
         carried: &mut Carried,
-    ) -> Result<(), Trouble> {
-        let held = self.held_by(owner)?;
-        for object in held.iter() {
-            let object = *object;
+    ) -> Result<(), Failure> {
+        for &object in &self.held_by(owner)? {
             self.carry_one(front, Claim { object, rank }, carried)?;
         }
         Ok(())
     }
 
     fn held_by(&self, owner: ObjectId) -> Result<Vec<ObjectId>, AllocError> {
-        let mut held = Vec::new(self.heap);
-        if let Some(object) = self.object(owner) {
-            for reference in object.refs.iter() {
-                if let Some(found) = *reference {
-                    held.push(found)?;
-                }
-            }
+        match self.object(owner) {
+            Some(object) => object.refs.iter().flatten().copied().collect(self.heap),
+            None => Ok(Vec::new(self.heap)),
         }
-        Ok(held)
     }
 
     // An object that is not, or no longer, in the car stays where it is.
@@ -109,7 +97,7 @@ impl Space {
         front: usize,
         claim: Claim,
         carried: &mut Carried,
-    ) -> Result<(), Trouble> {
+    ) -> Result<(), Failure> {
         let Some(object) = self.objects.get_mut(claim.object.0) else {
             return Ok(());
         };

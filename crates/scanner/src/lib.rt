@@ -4,14 +4,14 @@
 mod answering;
 mod carry;
 mod claims;
+mod failure;
 mod objects;
 mod playing;
 mod sets;
 mod space;
 mod step;
 mod trains;
-mod trouble;
 
+pub use failure::Failure;
 pub use playing::{PlayError, play};
 pub use sets::{Choice, Pair, Remembered};
-pub use trouble::Trouble;
