@@ -1,8 +1,8 @@
 // The calls of scripts. A refused call leaves the space as it was.
+use crate::counts::capped;
 use crate::failure::Failure;
 use crate::objects::{ObjectId, Shape};
 use crate::space::{Slot, Space};
-use crate::step::capped;
 use script::{Answer, Call, Refusal, Usage};
 use thiserror::Error;
 
@@ -34,10 +34,10 @@ impl Space {
                 words,
             } => self.make(root, kind, refs, words),
             Call::Link { root, slot, from } => self.link(root, slot, from),
-            Call::Follow { root, from, slot } => Ok(self.follow(root, from, slot)?),
+            Call::Follow { root, from, slot } => self.follow(root, from, slot),
             Call::Drop { root } => Ok(self.set_root(root, None)?),
-            Call::Put { root, word, value } => Ok(self.put(root, word, value)?),
-            Call::Lift { root, word, by } => Ok(self.lift(root, word, by)?),
+            Call::Put { root, word, value } => self.put(root, word, value),
+            Call::Lift { root, word, by } => self.lift(root, word, by),
             Call::Get { root, word } => Ok(Answer::Value(self.data_word(root, word)?)),
             Call::Same { root, other } => Ok(Answer::Same(self.root(root)? == self.root(other)?)),
             Call::Step => Ok(Answer::Step(self.step()?)),
@@ -85,8 +85,8 @@ impl Space {
         owner: ObjectId,
         index: usize,
         held: Option<ObjectId>,
-    ) -> Result<(), Refusal> {
-        let object = self.objects.get_mut(owner.0).ok_or(Refusal::Empty)?;
+    ) -> Result<(), CallError> {
+        let object = self.object_mut(owner)?;
         let reference = object.refs.get_mut(index).ok_or(Refusal::Missing)?;
         *reference = held;
         Ok(())
@@ -98,48 +98,40 @@ impl Space {
         index: usize,
         holds: ObjectId,
     ) -> Result<(), Failure> {
-        let Some(place) = self.place_of(owner) else {
-            return Ok(());
-        };
-        let Some(stands) = self.trains.car_place(place.car) else {
-            return Ok(());
-        };
-        self.note_slot(Slot {
-            owner,
-            stands,
-            address: place.slot_address(index),
-            holds,
-        })
+        match self.whereabouts(owner)? {
+            Some((place, car_place)) => self.note_slot(Slot {
+                owner,
+                car_place,
+                address: place.slot_address(index),
+                holds,
+            }),
+            None => Ok(()),
+        }
     }
 
-    fn follow(&mut self, root: u32, from: u32, slot: u32) -> Result<Answer, Refusal> {
+    fn follow(&mut self, root: u32, from: u32, slot: u32) -> Result<Answer, CallError> {
         self.root(root)?;
         let owner = self.root_object(from)?;
-        let held = self.reference(owner, slot as usize)?;
-        self.set_root(root, held)
+        let reference = self.object(owner)?.refs.get(slot as usize);
+        let held = reference.copied().ok_or(Refusal::Missing)?;
+        Ok(self.set_root(root, held)?)
     }
 
-    fn reference(&self, owner: ObjectId, index: usize) -> Result<Option<ObjectId>, Refusal> {
-        let object = self.object(owner).ok_or(Refusal::Empty)?;
-        object.refs.get(index).copied().ok_or(Refusal::Missing)
-    }
-
-    fn data_word(&self, root: u32, word: u32) -> Result<u32, Refusal> {
+    fn data_word(&self, root: u32, word: u32) -> Result<u32, CallError> {
         let owner = self.root_object(root)?;
-        let object = self.object(owner).ok_or(Refusal::Empty)?;
-        let value = object.words.get(word as usize);
-        value.copied().ok_or(Refusal::Missing)
+        let value = self.object(owner)?.words.get(word as usize);
+        Ok(value.copied().ok_or(Refusal::Missing)?)
     }
 
-    fn put(&mut self, root: u32, word: u32, value: u32) -> Result<Answer, Refusal> {
+    fn put(&mut self, root: u32, word: u32, value: u32) -> Result<Answer, CallError> {
         let owner = self.root_object(root)?;
-        let object = self.objects.get_mut(owner.0).ok_or(Refusal::Empty)?;
+        let object = self.object_mut(owner)?;
         let place = object.words.get_mut(word as usize).ok_or(Refusal::Missing)?;
         *place = value;
         Ok(Answer::Done)
     }
 
-    fn lift(&mut self, root: u32, word: u32, by: i32) -> Result<Answer, Refusal> {
+    fn lift(&mut self, root: u32, word: u32, by: i32) -> Result<Answer, CallError> {
         let old = self.data_word(root, word)?;
         let value = old.checked_add_signed(by).ok_or(Refusal::Range)?;
         self.put(root, word, value)

@@ -1,13 +1,14 @@
 // Carrying objects out of the first car, in Cheney's order.
-use crate::claims::{Claim, Claims};
 use crate::failure::Failure;
 use crate::objects::{CAR_WORDS, ObjectId};
+use crate::requests::{MoveRequest, MoveRequests};
 use crate::space::Space;
-use std::alloc::{AllocError, Global};
+use std::alloc::Global;
 
-/// What a step has carried so far, in order of placing.
+/// What a step has carried out of the car `front` so far, in order of placing.
 #[derive(Drop)]
 pub(crate) struct Carried {
+    front: usize,
     pub(crate) objects: Vec<ObjectId>,
     pub(crate) out: u8,
     pub(crate) back: u8,
@@ -15,8 +16,9 @@ pub(crate) struct Carried {
 }
 
 impl Carried {
-    fn none(heap: Global) -> Carried {
+    fn none(heap: Global, front: usize) -> Carried {
         Carried {
+            front,
             objects: Vec::new(heap),
             out: 0,
             back: 0,
@@ -24,10 +26,10 @@ impl Carried {
         }
     }
 
-    fn add(&mut self, claim: Claim, size: usize) -> Result<(), Failure> {
-        self.objects.push(claim.object)?;
+    fn add(&mut self, request: MoveRequest, size: usize) -> Result<(), Failure> {
+        self.objects.push(request.object)?;
         self.words = self.words.saturating_add(size);
-        if claim.rank == 0 {
+        if request.rank == 0 {
             self.back = self.back.saturating_add(1);
         } else {
             self.out = self.out.saturating_add(1);
@@ -37,35 +39,35 @@ impl Carried {
 }
 
 impl Space {
-    /// Carries what is claimed out of the car `front`: by roots, by the mark, by other trains, by the first train itself.
-    pub(crate) fn carry_claimed(
+    /// Carries out of the car `front` what is asked to move: by roots, by the mark, by other trains, by the first train.
+    pub(crate) fn carry_requested(
         &mut self,
         front: usize,
-        claims: &Claims,
+        requests: &MoveRequests,
     ) -> Result<Carried, Failure> {
-        let mut carried = Carried::none(self.heap);
-        let in_order = claims
+        let mut carried = Carried::none(self.heap, front);
+        let in_order = requests
             .of_roots
             .iter()
-            .chain(&claims.of_mark)
-            .chain(&claims.of_other_trains)
-            .chain(&claims.of_first_train);
-        for claim in in_order {
-            self.carry(front, *claim, &mut carried)?;
+            .chain(&requests.of_mark)
+            .chain(&requests.of_other_trains)
+            .chain(&requests.of_first_train);
+        for request in in_order {
+            self.carry(*request, &mut carried)?;
         }
         Ok(carried)
     }
 
     // Places the object in its train, then what its references hold of the car, and so on in order of placing.
-    fn carry(&mut self, front: usize, claim: Claim, carried: &mut Carried) -> Result<(), Failure> {
+    fn carry(&mut self, request: MoveRequest, carried: &mut Carried) -> Result<(), Failure> {
         let begin = carried.objects.len();
-        self.carry_one(front, claim, carried)?;
-        // The row grows while it is read, so it is read by number. A car has fewer objects than words.
+        self.carry_one(request, carried)?;
+        // The row of objects grows while it is read, so no iterator can hold it. A car has fewer objects than words.
         for turn in 0..CAR_WORDS {
             let Some(&object) = carried.objects.get(begin.saturating_add(turn)) else {
                 break;
             };
-            self.carry_held(front, object, claim.rank, carried)?;
+            self.carry_held(object, request.rank, carried)?;
         }
         Ok(())
     }
@@ -73,42 +75,32 @@ impl Space {
     // Carries what this object's references hold of the car, by reference number.
     fn carry_held(
         &mut self,
-        front: usize,
         owner: ObjectId,
         rank: usize,
         carried: &mut Carried,
     ) -> Result<(), Failure> {
         for &object in &self.held_by(owner)? {
-            self.carry_one(front, Claim { object, rank }, carried)?;
+            self.carry_one(MoveRequest { object, rank }, carried)?;
         }
         Ok(())
     }
 
-    fn held_by(&self, owner: ObjectId) -> Result<Vec<ObjectId>, AllocError> {
-        match self.object(owner) {
-            Some(object) => object.refs.iter().flatten().copied().collect(self.heap),
-            None => Ok(Vec::new(self.heap)),
-        }
+    fn held_by(&self, owner: ObjectId) -> Result<Vec<ObjectId>, Failure> {
+        let refs = self.object(owner)?.refs.iter();
+        Ok(refs.flatten().copied().collect(self.heap)?)
     }
 
     // An object that is not, or no longer, in the car stays where it is.
-    fn carry_one(
-        &mut self,
-        front: usize,
-        claim: Claim,
-        carried: &mut Carried,
-    ) -> Result<(), Failure> {
-        let Some(object) = self.objects.get_mut(claim.object.0) else {
-            return Ok(());
-        };
-        if !object.lies_in(front) {
+    fn carry_one(&mut self, request: MoveRequest, carried: &mut Carried) -> Result<(), Failure> {
+        let object = self.object(request.object)?;
+        if !object.lies_in(carried.front) {
             return Ok(());
         }
         let size = object.size();
         let place = self
             .trains
-            .place(self.heap, claim.rank, claim.object, size)?;
-        object.place = Some(place);
-        carried.add(claim, size)
+            .place(self.heap, request.rank, request.object, size)?;
+        self.object_mut(request.object)?.place = Some(place);
+        carried.add(request, size)
     }
 }

@@ -3,10 +3,11 @@
 
 mod answering;
 mod carry;
-mod claims;
+mod counts;
 mod failure;
 mod objects;
 mod playing;
+mod requests;
 mod sets;
 mod space;
 mod step;

@@ -16,9 +16,13 @@ const BUFFER_PLACES: usize = 16;
 /// Which remembered set a play uses.
 #[derive(Clone, Copy)]
 pub enum Choice {
+    /// Single slots, up to 2,048.
     Slots,
+    /// Cards of 16 addresses.
     Cards,
+    /// Slots behind a buffer of 16 pairs.
     BufferedSlots,
+    /// Cards behind a buffer of 16 pairs.
     BufferedCards,
 }
 
@@ -98,12 +102,8 @@ impl Below {
 
 fn mark_card(pairs: &mut BTreeSet<Pair>, pair: Pair) -> Result<(), Failure> {
     let first = pair.address / CARD_WORDS * CARD_WORDS;
-    for place in 0..CARD_WORDS {
-        pairs.insert(Pair {
-            car: pair.car,
-            address: first.saturating_add(place),
-        })?;
-    }
+    let addresses = first..first.saturating_add(CARD_WORDS);
+    pairs.extend(addresses.map(|address| Pair { address, ..pair }))?;
     Ok(())
 }
 

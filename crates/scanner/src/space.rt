@@ -1,28 +1,28 @@
 // The whole space. References are found by looking at every object that lies in a car.
-use crate::claims::Claim;
 use crate::failure::Failure;
 use crate::objects::{Object, ObjectId, Place, Shape};
+use crate::requests::MoveRequest;
 use crate::sets::{Choice, Pair, Remembered};
 use crate::trains::{CarPlace, Trains};
-use std::alloc::{AllocError, Global};
+use std::alloc::Global;
 
 const ROOTS: usize = 32;
 
-/// A reference that holds an object, and where it stands.
+/// A reference that holds an object, and where its car stands.
 #[derive(Clone, Copy)]
 pub(crate) struct Slot {
     pub(crate) owner: ObjectId,
-    pub(crate) stands: CarPlace,
+    pub(crate) car_place: CarPlace,
     pub(crate) address: usize,
     pub(crate) holds: ObjectId,
 }
 
 impl Slot {
     /// The slot keeps what it holds in its own train.
-    pub(crate) fn claim(&self) -> Claim {
-        Claim {
+    pub(crate) fn request(&self) -> MoveRequest {
+        MoveRequest {
             object: self.holds,
-            rank: self.stands.rank,
+            rank: self.car_place.rank,
         }
     }
 }
@@ -35,7 +35,7 @@ pub(crate) struct Space {
     pub(crate) roots: [Option<ObjectId>; ROOTS],
     pub(crate) trains: Trains,
     /// The guard against futile steps: an object of the first train, and the rank that it is to be carried to.
-    pub(crate) mark: Option<Claim>,
+    pub(crate) mark: Option<MoveRequest>,
     pub(crate) remembered: Remembered,
 }
 
@@ -51,17 +51,22 @@ impl Space {
         }
     }
 
-    pub(crate) fn object(&self, id: ObjectId) -> Option<&Object> {
-        self.objects.get(id.0)
+    pub(crate) fn object(&self, id: ObjectId) -> Result<&Object, Failure> {
+        self.objects.get(id.0).ok_or(Failure::NoObject)
     }
 
-    pub(crate) fn place_of(&self, id: ObjectId) -> Option<Place> {
-        self.object(id)?.place
+    pub(crate) fn object_mut(&mut self, id: ObjectId) -> Result<&mut Object, Failure> {
+        self.objects.get_mut(id.0).ok_or(Failure::NoObject)
     }
 
-    /// Where the car stands in which the object lies.
-    pub(crate) fn car_place_of(&self, id: ObjectId) -> Option<CarPlace> {
-        self.trains.car_place(self.place_of(id)?.car)
+    /// Where the object lies, and where its car stands; none once it is lost.
+    pub(crate) fn whereabouts(&self, id: ObjectId) -> Result<Option<(Place, CarPlace)>, Failure> {
+        let place = self.object(id)?.place;
+        Ok(place.and_then(|place| {
+            self.trains
+                .car_place(place.car)
+                .map(|car_place| (place, car_place))
+        }))
     }
 
     pub(crate) fn words_in_use(&self) -> usize {
@@ -85,23 +90,17 @@ impl Space {
 
     /// Notes a slot whose car is later than the car of the object it holds.
     pub(crate) fn note_slot(&mut self, slot: Slot) -> Result<(), Failure> {
-        let Some(place) = self.place_of(slot.holds) else {
-            return Ok(());
-        };
-        let Some(stands) = self.trains.car_place(place.car) else {
-            return Ok(());
-        };
-        if slot.stands > stands {
-            self.remembered.note(Pair {
+        match self.whereabouts(slot.holds)? {
+            Some((place, car_place)) if slot.car_place > car_place => self.remembered.note(Pair {
                 car: place.car,
                 address: slot.address,
-            })?;
+            }),
+            _ => Ok(()),
         }
-        Ok(())
     }
 
     /// Every slot that holds an object, by car from early to late, then by address.
-    pub(crate) fn slots(&self) -> Result<Vec<Slot>, AllocError> {
+    pub(crate) fn slots(&self) -> Result<Vec<Slot>, Failure> {
         let mut slots = Vec::new(self.heap);
         for (rank, train) in self.trains.iter().enumerate() {
             for (position, car) in train.cars.iter().enumerate() {
@@ -114,13 +113,11 @@ impl Space {
     fn add_slots(
         &self,
         slots: &mut Vec<Slot>,
-        stands: CarPlace,
+        car_place: CarPlace,
         owners: &[ObjectId],
-    ) -> Result<(), AllocError> {
+    ) -> Result<(), Failure> {
         for &owner in owners {
-            let Some(object) = self.object(owner) else {
-                continue;
-            };
+            let object = self.object(owner)?;
             let Some(place) = object.place else {
                 continue;
             };
@@ -128,7 +125,7 @@ impl Space {
                 object.refs.iter().enumerate().filter_map(|(index, held)| {
                     held.map(|holds| Slot {
                         owner,
-                        stands,
+                        car_place,
                         address: place.slot_address(index),
                         holds,
                     })

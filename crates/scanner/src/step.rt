@@ -1,7 +1,8 @@
 // One step of the collector: the first train is freed whole, or its first car is emptied.
-use crate::claims::{Claim, Claims};
+use crate::counts::capped;
 use crate::failure::Failure;
 use crate::objects::ObjectId;
+use crate::requests::{MoveRequest, MoveRequests};
 use crate::space::Space;
 use script::{Freed, Report};
 
@@ -24,9 +25,9 @@ impl Space {
         let cars = train.car_numbers(self.heap)?;
         let looked = self.pairs_for(&cars);
         let slots = self.slots()?;
-        let claims = self.claims(&slots)?;
-        match (claims.first_outside(), cars.first()) {
-            (Some(outside), Some(front)) => self.empty_car(*front, &claims, outside, looked),
+        let requests = self.requests(&slots)?;
+        match (requests.first_outside(), cars.first()) {
+            (Some(outside), Some(front)) => self.empty_car(*front, &requests, outside, looked),
             _ => Ok(self.free_train(&cars, looked)),
         }
     }
@@ -55,16 +56,16 @@ impl Space {
         }
     }
 
-    // Carries what is claimed out of the first car, and frees the car with what is left there.
+    // Carries out of the first car what is asked to move, and frees the car with what is left there.
     fn empty_car(
         &mut self,
         front: usize,
-        claims: &Claims,
-        outside: Claim,
+        requests: &MoveRequests,
+        outside: MoveRequest,
         looked: usize,
     ) -> Result<Report, Failure> {
-        let mark_goes = self.mark_lies_in(front);
-        let carried = self.carry_claimed(front, claims)?;
+        let mark_goes = self.mark_lies_in(front)?;
+        let carried = self.carry_requested(front, requests)?;
         let lost = self.lose_objects(front);
         self.trains.drop_first_car();
         self.remembered.forget(front);
@@ -81,14 +82,15 @@ impl Space {
         })
     }
 
-    fn mark_lies_in(&self, car: usize) -> bool {
-        self.mark
-            .and_then(|mark| self.object(mark.object))
-            .is_some_and(|object| object.lies_in(car))
+    fn mark_lies_in(&self, car: usize) -> Result<bool, Failure> {
+        match self.mark {
+            Some(mark) => Ok(self.object(mark.object)?.lies_in(car)),
+            None => Ok(false),
+        }
     }
 
     // A step from which nothing left the first train sets a mark, unless one stands.
-    fn update_mark(&mut self, mark_goes: bool, out: u8, outside: Claim) {
+    fn update_mark(&mut self, mark_goes: bool, out: u8, outside: MoveRequest) {
         if mark_goes {
             self.mark = None;
         }
@@ -114,12 +116,4 @@ impl Space {
         }
         Ok(())
     }
-}
-
-/// The count in the width of the field that it is for, which is wide enough for every space.
-pub(crate) fn capped<T: TryFrom<usize> + Drop>(count: usize, most: T) -> T
-where
-    T::Error: Drop,
-{
-    T::try_from(count).unwrap_or(most)
 }

@@ -109,7 +109,7 @@ impl Trains {
             0 => 0,
             1 => 1,
             _ if trains < MOST_TRAINS && last_cars >= LONG_TRAIN => trains,
-            _ => trains.saturating_sub(1),
+            _ => trains - 1,
         }
     }
 

@@ -1,11 +1,9 @@
 // What the remembered sets say they have.
-use scanner::{Choice, Pair, Remembered};
+use scanner::{Choice, Failure, Pair, Remembered};
 use std::test::Fail;
 
-fn note(remembered: &mut Remembered, car: usize, address: usize) -> Result<(), Fail> {
-    remembered
-        .note(Pair { car, address })
-        .map_err(|_| Fail::new("no memory"))
+fn note(remembered: &mut Remembered, car: usize, address: usize) -> Result<(), Failure> {
+    remembered.note(Pair { car, address })
 }
 
 #[test]
