@@ -45,6 +45,7 @@ impl Space {
         }
     }
 
+    // A `u32` is widened by `as` here and below: `usize` has no `From<u32>`.
     fn root(&self, number: u32) -> Result<Option<ObjectId>, Refusal> {
         let held = self.roots.get(number as usize);
         held.copied().ok_or(Refusal::Root)

@@ -39,7 +39,8 @@ impl Carried {
 }
 
 impl Space {
-    /// Carries out of the car `front` what is asked to move: by roots, by the mark, by other trains, by the first train.
+    /// Carries out of the car `front` what is asked to move: by roots, by the mark, by other trains, and by the first
+    /// train.
     pub(crate) fn carry_requested(
         &mut self,
         front: usize,

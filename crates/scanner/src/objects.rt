@@ -3,7 +3,8 @@ use std::alloc::{AllocError, Global};
 
 pub(crate) const CAR_WORDS: usize = 128;
 
-/// An object's number in the order of making. It stays the same wherever the object is carried.
+/// An object's number in the order of making. It stays the same wherever the object is carried, and is not given again.
+/// Objects hold one another in circles, so they are named by numbers and not owned by one another.
 #[derive(Clone, Copy, PartialEq, Eq)]
 pub(crate) struct ObjectId(pub(crate) usize);
 

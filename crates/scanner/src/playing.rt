@@ -17,7 +17,7 @@ pub enum PlayError {
     Stopped(#[from] Failure),
 }
 
-// The lines of a script from the byte `start` on.
+// The lines of a script from the byte `start` on, by their texts.
 #[derive(Drop)]
 struct Lines<'a> {
     script: &'a [u8],

@@ -107,7 +107,8 @@ impl Space {
             .count()
     }
 
-    // Considers each slot of a carried object, and each slot that holds one, by car from early to late, then by address.
+    // Considers each slot of a carried object, and each slot that holds one, by car from early to late, then by
+    // address.
     fn note_carried(&mut self, carried: &[ObjectId]) -> Result<(), Failure> {
         for slot in &self.slots()? {
             if carried.contains(&slot.owner) || carried.contains(&slot.holds) {
