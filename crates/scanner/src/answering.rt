@@ -1,40 +1,31 @@
 // The calls of scripts. A refused call leaves the space as it was.
+use crate::counts::capped;
+use crate::failure::Failure;
 use crate::objects::{ObjectId, Shape};
 use crate::space::{Slot, Space};
-use crate::trouble::Trouble;
 use script::{Answer, Call, Refusal, Usage};
+use thiserror::Error;
 
 const MOST_WORDS: usize = 3072;
 
 // Why a call has no answer of its own.
-#[derive(Clone, Copy)]
-enum Halt {
-    Refused(Refusal),
-    Trouble(Trouble),
-}
-
-impl From<Refusal> for Halt {
-    fn from(refusal: Refusal) -> Halt {
-        Halt::Refused(refusal)
-    }
-}
-
-impl From<Trouble> for Halt {
-    fn from(trouble: Trouble) -> Halt {
-        Halt::Trouble(trouble)
-    }
+#[derive(Clone, Copy, Debug, Error)]
+enum CallError {
+    #[error("the call is refused: {0:?}")]
+    Refused(#[from] Refusal),
+    #[error(transparent)]
+    Stopped(#[from] Failure),
 }
 
 impl Space {
-    pub fn answer(&mut self, call: Call) -> Result<Answer, Trouble> {
-        match self.perform(call) {
-            Ok(answer) => Ok(answer),
-            Err(Halt::Refused(refusal)) => Ok(Answer::Refused(refusal)),
-            Err(Halt::Trouble(trouble)) => Err(trouble),
-        }
+    pub(crate) fn answer(&mut self, call: Call) -> Result<Answer, Failure> {
+        self.perform(call).or_else(|error| match error {
+            CallError::Refused(refusal) => Ok(Answer::Refused(refusal)),
+            CallError::Stopped(failure) => Err(failure),
+        })
     }
 
-    fn perform(&mut self, call: Call) -> Result<Answer, Halt> {
+    fn perform(&mut self, call: Call) -> Result<Answer, CallError> {
         match call {
             Call::Make {
                 root,
@@ -44,7 +35,7 @@ impl Space {
             } => self.make(root, kind, refs, words),
             Call::Link { root, slot, from } => self.link(root, slot, from),
             Call::Follow { root, from, slot } => self.follow(root, from, slot),
-            Call::Drop { root } => self.set_root(root, None),
+            Call::Drop { root } => Ok(self.set_root(root, None)?),
             Call::Put { root, word, value } => self.put(root, word, value),
             Call::Lift { root, word, by } => self.lift(root, word, by),
             Call::Get { root, word } => Ok(Answer::Value(self.data_word(root, word)?)),
@@ -54,43 +45,33 @@ impl Space {
         }
     }
 
+    // A `u32` is widened by `as` here and below: `usize` has no `From<u32>`.
     fn root(&self, number: u32) -> Result<Option<ObjectId>, Refusal> {
-        match self.roots.get(number as usize) {
-            Some(held) => Ok(*held),
-            None => Err(Refusal::Root),
-        }
+        let held = self.roots.get(number as usize);
+        held.copied().ok_or(Refusal::Root)
     }
 
     fn root_object(&self, number: u32) -> Result<ObjectId, Refusal> {
-        match self.root(number)? {
-            Some(object) => Ok(object),
-            None => Err(Refusal::Empty),
-        }
+        self.root(number)?.ok_or(Refusal::Empty)
     }
 
-    fn set_root(&mut self, number: u32, held: Option<ObjectId>) -> Result<Answer, Halt> {
-        match self.roots.get_mut(number as usize) {
-            Some(root) => {
-                *root = held;
-                Ok(Answer::Done)
-            }
-            None => Err(Halt::Refused(Refusal::Root)),
-        }
+    fn set_root(&mut self, number: u32, held: Option<ObjectId>) -> Result<Answer, Refusal> {
+        let root = self.roots.get_mut(number as usize).ok_or(Refusal::Root)?;
+        *root = held;
+        Ok(Answer::Done)
     }
 
-    fn make(&mut self, root: u32, kind: u32, refs: u32, words: u32) -> Result<Answer, Halt> {
+    fn make(&mut self, root: u32, kind: u32, refs: u32, words: u32) -> Result<Answer, CallError> {
         self.root(root)?;
-        let Some(shape) = Shape::admitted(kind, refs, words) else {
-            return Err(Halt::Refused(Refusal::Shape));
-        };
+        let shape = Shape::admitted(kind, refs, words).ok_or(Refusal::Shape)?;
         if self.words_in_use().saturating_add(shape.size()) > MOST_WORDS {
-            return Err(Halt::Refused(Refusal::Full));
+            return Err(Refusal::Full.into());
         }
         let object = self.add(shape)?;
-        self.set_root(root, Some(object))
+        Ok(self.set_root(root, Some(object))?)
     }
 
-    fn link(&mut self, root: u32, slot: u32, from: u32) -> Result<Answer, Halt> {
+    fn link(&mut self, root: u32, slot: u32, from: u32) -> Result<Answer, CallError> {
         let held = self.root(from)?;
         let owner = self.root_object(root)?;
         self.set_reference(owner, slot as usize, held)?;
@@ -105,13 +86,9 @@ impl Space {
         owner: ObjectId,
         index: usize,
         held: Option<ObjectId>,
-    ) -> Result<(), Refusal> {
-        let Some(object) = self.objects.get_mut(owner.0) else {
-            return Err(Refusal::Empty);
-        };
-        let Some(reference) = object.refs.get_mut(index) else {
-            return Err(Refusal::Missing);
-        };
+    ) -> Result<(), CallError> {
+        let object = self.object_mut(owner)?;
+        let reference = object.refs.get_mut(index).ok_or(Refusal::Missing)?;
         *reference = held;
         Ok(())
     }
@@ -121,86 +98,52 @@ impl Space {
         owner: ObjectId,
         index: usize,
         holds: ObjectId,
-    ) -> Result<(), Trouble> {
-        let Some(place) = self.place_of(owner) else {
-            return Ok(());
-        };
-        let Some(seat) = self.seat_of(owner) else {
-            return Ok(());
-        };
-        let address = place.slot_address(index);
-        self.note_slot(Slot {
-            owner,
-            seat,
-            address,
-            holds,
-        })
+    ) -> Result<(), Failure> {
+        match self.whereabouts(owner)? {
+            Some((place, car_place)) => self.note_slot(Slot {
+                owner,
+                car_place,
+                address: place.slot_address(index),
+                holds,
+            }),
+            None => Ok(()),
+        }
     }
 
-    fn follow(&mut self, root: u32, from: u32, slot: u32) -> Result<Answer, Halt> {
+    fn follow(&mut self, root: u32, from: u32, slot: u32) -> Result<Answer, CallError> {
         self.root(root)?;
         let owner = self.root_object(from)?;
-        let held = self.reference(owner, slot as usize)?;
-        self.set_root(root, held)
+        let reference = self.object(owner)?.refs.get(slot as usize);
+        let held = reference.copied().ok_or(Refusal::Missing)?;
+        Ok(self.set_root(root, held)?)
     }
 
-    fn reference(&self, owner: ObjectId, index: usize) -> Result<Option<ObjectId>, Refusal> {
-        let Some(object) = self.object(owner) else {
-            return Err(Refusal::Empty);
-        };
-        match object.refs.get(index) {
-            Some(held) => Ok(*held),
-            None => Err(Refusal::Missing),
-        }
-    }
-
-    fn data_word(&self, root: u32, word: u32) -> Result<u32, Refusal> {
+    fn data_word(&self, root: u32, word: u32) -> Result<u32, CallError> {
         let owner = self.root_object(root)?;
-        let Some(object) = self.object(owner) else {
-            return Err(Refusal::Empty);
-        };
-        match object.words.get(word as usize) {
-            Some(value) => Ok(*value),
-            None => Err(Refusal::Missing),
-        }
+        let value = self.object(owner)?.words.get(word as usize);
+        Ok(value.copied().ok_or(Refusal::Missing)?)
     }
 
-    fn put(&mut self, root: u32, word: u32, value: u32) -> Result<Answer, Halt> {
+    fn put(&mut self, root: u32, word: u32, value: u32) -> Result<Answer, CallError> {
         let owner = self.root_object(root)?;
-        let Some(object) = self.objects.get_mut(owner.0) else {
-            return Err(Halt::Refused(Refusal::Empty));
-        };
-        match object.words.get_mut(word as usize) {
-            Some(place) => {
-                *place = value;
-                Ok(Answer::Done)
-            }
-            None => Err(Halt::Refused(Refusal::Missing)),
-        }
+        let object = self.object_mut(owner)?;
+        let place = object.words.get_mut(word as usize).ok_or(Refusal::Missing)?;
+        *place = value;
+        Ok(Answer::Done)
     }
 
-    fn lift(&mut self, root: u32, word: u32, by: i32) -> Result<Answer, Halt> {
+    fn lift(&mut self, root: u32, word: u32, by: i32) -> Result<Answer, CallError> {
         let old = self.data_word(root, word)?;
-        let Some(lifted) = i64::from(old).checked_add(i64::from(by)) else {
-            return Err(Halt::Refused(Refusal::Range));
-        };
-        match u32::try_from(lifted) {
-            Ok(value) => self.put(root, word, value),
-            Err(_) => Err(Halt::Refused(Refusal::Range)),
-        }
+        let value = old.checked_add_signed(by).ok_or(Refusal::Range)?;
+        self.put(root, word, value)
     }
 
     fn tally(&self) -> Usage {
         Usage {
-            words: in_usage(self.words_in_use()),
-            cars: in_usage(self.trains.cars()),
-            trains: in_usage(self.trains.len()),
+            words: capped(self.words_in_use(), u32::MAX),
+            cars: capped(self.trains.cars(), u32::MAX),
+            trains: capped(self.trains.len(), u32::MAX),
             mark: self.mark.is_some(),
         }
     }
-}
-
-// No count of a space comes near this limit.
-fn in_usage(number: usize) -> u32 {
-    u32::try_from(number).unwrap_or(u32::MAX)
 }

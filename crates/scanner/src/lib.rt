@@ -3,15 +3,16 @@
 
 mod answering;
 mod carry;
-mod claims;
+mod counts;
+mod failure;
 mod objects;
 mod playing;
+mod requests;
 mod sets;
 mod space;
 mod step;
 mod trains;
-mod trouble;
 
+pub use failure::Failure;
 pub use playing::{PlayError, play};
 pub use sets::{Choice, Pair, Remembered};
-pub use trouble::Trouble;

@@ -1,46 +1,46 @@
 // The whole space. References are found by looking at every object that lies in a car.
-use crate::claims::Claim;
+use crate::failure::Failure;
 use crate::objects::{Object, ObjectId, Place, Shape};
+use crate::requests::MoveRequest;
 use crate::sets::{Choice, Pair, Remembered};
-use crate::trains::{Seat, Train, Trains};
-use crate::trouble::Trouble;
-use std::alloc::{AllocError, Global};
+use crate::trains::{CarPlace, Trains};
+use std::alloc::Global;
 
-pub const ROOTS: usize = 32;
+const ROOTS: usize = 32;
 
-// A reference that holds an object, and where it stands.
+/// A reference that holds an object, and where its car stands.
 #[derive(Clone, Copy)]
-pub struct Slot {
-    pub owner: ObjectId,
-    pub seat: Seat,
-    pub address: usize,
-    pub holds: ObjectId,
+pub(crate) struct Slot {
+    pub(crate) owner: ObjectId,
+    pub(crate) car_place: CarPlace,
+    pub(crate) address: usize,
+    pub(crate) holds: ObjectId,
 }
 
 impl Slot {
-    // The slot keeps what it holds in its own train.
-    pub fn claim(&self) -> Claim {
-        Claim {
+    /// The slot keeps what it holds in its own train.
+    pub(crate) fn request(&self) -> MoveRequest {
+        MoveRequest {
             object: self.holds,
-            rank: self.seat.rank,
+            rank: self.car_place.rank,
         }
     }
 }
 
 #[derive(Drop)]
-pub struct Space {
-    pub heap: Global,
-    // Every object ever made, the lost ones too.
-    pub objects: Vec<Object>,
-    pub roots: [Option<ObjectId>; ROOTS],
-    pub trains: Trains,
-    // The guard against futile steps: an object of the first train, and the rank that it is to be carried to.
-    pub mark: Option<Claim>,
-    pub remembered: Remembered,
+pub(crate) struct Space {
+    pub(crate) heap: Global,
+    /// Every object ever made, the lost ones too.
+    pub(crate) objects: Vec<Object>,
+    pub(crate) roots: [Option<ObjectId>; ROOTS],
+    pub(crate) trains: Trains,
+    /// The guard against futile steps: an object of the first train, and the rank that it is to be carried to.
+    pub(crate) mark: Option<MoveRequest>,
+    pub(crate) remembered: Remembered,
 }
 
 impl Space {
-    pub fn open(heap: Global, choice: Choice) -> Space {
+    pub(crate) fn open(heap: Global, choice: Choice) -> Space {
         Space {
             heap,
             objects: Vec::new(heap),
@@ -51,30 +51,36 @@ impl Space {
         }
     }
 
-    pub fn object(&self, id: ObjectId) -> Option<&Object> {
-        self.objects.get(id.0)
+    pub(crate) fn object(&self, id: ObjectId) -> Result<&Object, Failure> {
+        self.objects.get(id.0).ok_or(Failure::NoObject)
     }
 
-    pub fn place_of(&self, id: ObjectId) -> Option<Place> {
-        self.object(id)?.place
+    pub(crate) fn object_mut(&mut self, id: ObjectId) -> Result<&mut Object, Failure> {
+        self.objects.get_mut(id.0).ok_or(Failure::NoObject)
     }
 
-    pub fn seat_of(&self, id: ObjectId) -> Option<Seat> {
-        self.trains.seat(self.place_of(id)?.car)
+    /// Where the object lies, and where its car stands; none once it is lost.
+    pub(crate) fn whereabouts(&self, id: ObjectId) -> Result<Option<(Place, CarPlace)>, Failure> {
+        let place = self.object(id)?.place;
+        Ok(place.and_then(|place| {
+            self.trains
+                .car_place(place.car)
+                .map(|car_place| (place, car_place))
+        }))
     }
 
-    pub fn words_in_use(&self) -> usize {
-        let mut words: usize = 0;
-        for object in self.objects.iter() {
-            if object.place.is_some() {
-                words = words.saturating_add(object.size());
-            }
-        }
-        words
+    pub(crate) fn words_in_use(&self) -> usize {
+        self.objects
+            .iter()
+            .filter(|object| object.place.is_some())
+            .fold(
+                0,
+                |words: usize, object| words.saturating_add(object.size()),
+            )
     }
 
-    // Places a new object at the arrival rank.
-    pub fn add(&mut self, shape: Shape) -> Result<ObjectId, Trouble> {
+    /// Places a new object at the arrival rank.
+    pub(crate) fn add(&mut self, shape: Shape) -> Result<ObjectId, Failure> {
         let id = ObjectId(self.objects.len());
         let rank = self.trains.arrival_rank();
         let place = self.trains.place(self.heap, rank, id, shape.size())?;
@@ -82,79 +88,50 @@ impl Space {
         Ok(id)
     }
 
-    // Notes a slot whose car is later than the car of the object it holds.
-    pub fn note_slot(&mut self, slot: Slot) -> Result<(), Trouble> {
-        let Some(place) = self.place_of(slot.holds) else {
-            return Ok(());
-        };
-        let Some(seat) = self.trains.seat(place.car) else {
-            return Ok(());
-        };
-        if slot.seat > seat {
-            self.remembered.note(Pair {
+    /// Notes a slot whose car is later than the car of the object it holds.
+    pub(crate) fn note_slot(&mut self, slot: Slot) -> Result<(), Failure> {
+        match self.whereabouts(slot.holds)? {
+            Some((place, car_place)) if slot.car_place > car_place => self.remembered.note(Pair {
                 car: place.car,
                 address: slot.address,
-            })?;
+            }),
+            _ => Ok(()),
         }
-        Ok(())
     }
 
-    // Every slot that holds an object, by car from early to late, then by address.
-    pub fn slots(&self) -> Result<Vec<Slot>, AllocError> {
+    /// Every slot that holds an object, by car from early to late, then by address.
+    pub(crate) fn slots(&self) -> Result<Vec<Slot>, Failure> {
         let mut slots = Vec::new(self.heap);
-        for (rank, train) in self.trains.as_slice().iter().enumerate() {
-            self.add_slots_of_train(&mut slots, rank, train)?;
+        for (rank, train) in self.trains.iter().enumerate() {
+            for (position, car) in train.cars.iter().enumerate() {
+                self.add_slots(&mut slots, CarPlace { rank, position }, &car.objects)?;
+            }
         }
         Ok(slots)
     }
 
-    fn add_slots_of_train(
+    fn add_slots(
         &self,
         slots: &mut Vec<Slot>,
-        rank: usize,
-        train: &Train,
-    ) -> Result<(), AllocError> {
-        for (row, car) in train.cars.iter().enumerate() {
-            let seat = Seat { rank, row };
-            self.add_slots_of_car(slots, seat, car.objects.as_slice())?;
+        car_place: CarPlace,
+        owners: &[ObjectId],
+    ) -> Result<(), Failure> {
+        for &owner in owners {
+            let object = self.object(owner)?;
+            let Some(place) = object.place else {
+                continue;
+            };
+            slots.extend(
+                object.refs.iter().enumerate().filter_map(|(index, held)| {
+                    held.map(|holds| Slot {
+                        owner,
+                        car_place,
+                        address: place.slot_address(index),
+                        holds,
+                    })
+                }),
+            )?;
         }
         Ok(())
     }
-
-    fn add_slots_of_car(
-        &self,
-        slots: &mut Vec<Slot>,
-        seat: Seat,
-        objects: &[ObjectId],
-    ) -> Result<(), AllocError> {
-        for owner in objects {
-            if let Some(object) = self.object(*owner) {
-                add_slots_of_object(slots, seat, *owner, object)?;
-            }
-        }
-        Ok(())
-    }
-}
-
-fn add_slots_of_object(
-    slots: &mut Vec<Slot>,
-    seat: Seat,
-    owner: ObjectId,
-    object: &Object,
-) -> Result<(), AllocError> {
-    let Some(place) = object.place else {
-        return Ok(());
-    };
-    for (index, held) in object.refs.iter().enumerate() {
-        if let Some(holds) = *held {
-            let address = place.slot_address(index);
-            slots.push(Slot {
-                owner,
-                seat,
-                address,
-                holds,
-            })?;
-        }
-    }
-    Ok(())
 }

@@ -1,7 +1,8 @@
 // Trains in a row, each a row of cars, each a row of objects.
+use crate::failure::Failure;
 use crate::objects::{CAR_WORDS, ObjectId, Place};
-use crate::trouble::Trouble;
 use std::alloc::{AllocError, Global};
+use std::collections::{VecDeque, vec_deque};
 
 const CARS: usize = 64;
 
@@ -9,17 +10,18 @@ const MOST_TRAINS: usize = 8;
 
 const LONG_TRAIN: usize = 4;
 
-// Where a car stands. The order of the fields makes the earlier car the lesser seat.
+/// Where a car stands: its train's rank, and how many cars of that train are before it. The order of the fields makes
+/// the earlier car the lesser place.
 #[derive(Clone, Copy, PartialEq, Eq, PartialOrd, Ord)]
-pub struct Seat {
-    pub rank: usize,
-    pub row: usize,
+pub(crate) struct CarPlace {
+    pub(crate) rank: usize,
+    pub(crate) position: usize,
 }
 
 #[derive(Drop)]
-pub struct Car {
-    pub number: usize,
-    pub objects: Vec<ObjectId>,
+pub(crate) struct Car {
+    pub(crate) number: usize,
+    pub(crate) objects: Vec<ObjectId>,
     filled: usize,
 }
 
@@ -36,7 +38,7 @@ impl Car {
         self.filled.saturating_add(size) <= CAR_WORDS
     }
 
-    fn put(&mut self, object: ObjectId, size: usize) -> Result<Place, Trouble> {
+    fn put(&mut self, object: ObjectId, size: usize) -> Result<Place, Failure> {
         let place = Place {
             car: self.number,
             offset: self.filled,
@@ -48,149 +50,119 @@ impl Car {
 }
 
 #[derive(Drop)]
-pub struct Train {
-    pub cars: Vec<Car>,
+pub(crate) struct Train {
+    pub(crate) cars: VecDeque<Car>,
 }
 
 impl Train {
     fn last_has_room(&self, size: usize) -> bool {
-        match self.cars.as_slice().last() {
-            Some(car) => car.has_room(size),
-            None => false,
-        }
+        self.cars.back().is_some_and(|car| car.has_room(size))
     }
 
-    fn row_of(&self, number: usize) -> Option<usize> {
-        for (row, car) in self.cars.iter().enumerate() {
-            if car.number == number {
-                return Some(row);
-            }
-        }
-        None
+    fn position_of(&self, number: usize) -> Option<usize> {
+        self.cars.iter().position(|car| car.number == number)
+    }
+
+    /// The numbers of the train's cars, in their order.
+    pub(crate) fn car_numbers(&self, heap: Global) -> Result<Vec<usize>, AllocError> {
+        self.cars.iter().map(|car| car.number).collect(heap)
     }
 }
 
 #[derive(Drop)]
-pub struct Trains {
-    row: Vec<Train>,
+pub(crate) struct Trains {
+    by_rank: VecDeque<Train>,
 }
 
 impl Trains {
-    pub fn new(heap: Global) -> Trains {
+    pub(crate) fn new(heap: Global) -> Trains {
         Trains {
-            row: Vec::new(heap),
+            by_rank: VecDeque::new(heap),
         }
     }
 
-    pub fn len(&self) -> usize {
-        self.row.len()
+    pub(crate) fn len(&self) -> usize {
+        self.by_rank.len()
     }
 
-    pub fn first(&self) -> Option<&Train> {
-        self.row.as_slice().first()
+    pub(crate) fn first(&self) -> Option<&Train> {
+        self.by_rank.front()
     }
 
-    pub fn as_slice(&self) -> &[Train] {
-        self.row.as_slice()
+    /// The trains by rank.
+    pub(crate) fn iter(&self) -> vec_deque::Iter<'_, Train> {
+        self.by_rank.iter()
     }
 
-    pub fn cars(&self) -> usize {
-        let mut cars: usize = 0;
-        for train in self.row.iter() {
-            cars = cars.saturating_add(train.cars.len());
-        }
-        cars
+    /// How many cars the trains have together.
+    pub(crate) fn cars(&self) -> usize {
+        self.by_rank.iter().fold(
+            0,
+            |cars: usize, train| cars.saturating_add(train.cars.len()),
+        )
     }
 
-    pub fn arrival_rank(&self) -> usize {
-        let trains = self.row.len();
-        let last_cars = match self.row.as_slice().last() {
-            Some(train) => train.cars.len(),
-            None => 0,
-        };
+    pub(crate) fn arrival_rank(&self) -> usize {
+        let trains = self.by_rank.len();
+        let last_cars = self.by_rank.back().map_or(0, |train| train.cars.len());
         match trains {
             0 => 0,
             1 => 1,
             _ if trains < MOST_TRAINS && last_cars >= LONG_TRAIN => trains,
-            _ => trains.saturating_sub(1),
+            _ => trains - 1,
         }
     }
 
-    // Where a car stands, or none if it is free.
-    pub fn seat(&self, number: usize) -> Option<Seat> {
-        for (rank, train) in self.row.iter().enumerate() {
-            if let Some(row) = train.row_of(number) {
-                return Some(Seat { rank, row });
-            }
-        }
-        None
+    /// Where a car stands, or none if it is free.
+    pub(crate) fn car_place(&self, number: usize) -> Option<CarPlace> {
+        self.by_rank.iter().enumerate().find_map(|(rank, train)| {
+            train
+                .position_of(number)
+                .map(|position| CarPlace { rank, position })
+        })
     }
 
     // The free car of the lowest number.
     fn free_car(&self) -> Option<usize> {
-        for number in 0..CARS {
-            if self.seat(number).is_none() {
-                return Some(number);
-            }
-        }
-        None
+        (0..CARS).find(|number| self.car_place(*number).is_none())
     }
 
-    // Puts an object into the last car of that train if it fits, else into a free car, which becomes the last.
-    // A rank that equals the number of trains opens a train.
-    pub fn place(
+    /// Puts an object into the last car of that train if it fits, else into a free car, which becomes the last.
+    /// A rank that equals the number of trains opens a train.
+    pub(crate) fn place(
         &mut self,
         heap: Global,
         rank: usize,
         object: ObjectId,
         size: usize,
-    ) -> Result<Place, Trouble> {
-        if rank == self.row.len() {
-            self.row.push(Train {
-                cars: Vec::new(heap),
+    ) -> Result<Place, Failure> {
+        if rank == self.by_rank.len() {
+            self.by_rank.push_back(Train {
+                cars: VecDeque::new(heap),
             })?;
         }
         let free = self.free_car();
-        let Some(train) = self.row.get_mut(rank) else {
-            return Err(Trouble::NoCar);
-        };
+        let train = self.by_rank.get_mut(rank).ok_or(Failure::NoCar)?;
         if !train.last_has_room(size) {
-            let Some(number) = free else {
-                return Err(Trouble::NoCar);
-            };
-            train.cars.push(Car::new(heap, number))?;
+            let number = free.ok_or(Failure::NoCar)?;
+            train.cars.push_back(Car::new(heap, number))?;
         }
-        match train.cars.last_mut() {
-            Some(car) => car.put(object, size),
-            None => Err(Trouble::NoCar),
-        }
+        let last = train.cars.back_mut().ok_or(Failure::NoCar)?;
+        last.put(object, size)
     }
 
-    // Takes the first car of the first train away, and a train that has no car left.
-    pub fn drop_first_car(&mut self) {
-        let Some(train) = self.row.first_mut() else {
+    /// Takes the first car of the first train away, and a train that has no car left.
+    pub(crate) fn drop_first_car(&mut self) {
+        let Some(train) = self.by_rank.front_mut() else {
             return;
         };
-        if !train.cars.is_empty() {
-            let _car = train.cars.remove(0);
-        }
+        train.cars.pop_front();
         if train.cars.is_empty() {
             self.drop_first_train();
         }
     }
 
-    pub fn drop_first_train(&mut self) {
-        if !self.row.is_empty() {
-            let _train = self.row.remove(0);
-        }
+    pub(crate) fn drop_first_train(&mut self) {
+        self.by_rank.pop_front();
     }
-}
-
-// The numbers of a train's cars, in their order.
-pub fn car_numbers(heap: Global, train: &Train) -> Result<Vec<usize>, AllocError> {
-    let mut numbers = Vec::new(heap);
-    for car in train.cars.iter() {
-        numbers.push(car.number)?;
-    }
-    Ok(numbers)
 }

@@ -1,20 +1,9 @@
 // What the remembered sets say they have.
-use scanner::{Choice, Pair, Remembered, Trouble};
+use scanner::{Choice, Failure, Pair, Remembered};
 use std::test::Fail;
 
-fn note(remembered: &mut Remembered, car: usize, address: usize) -> Result<(), Fail> {
-    told(remembered.note(Pair { car, address }))
-}
-
-fn forget(remembered: &mut Remembered, car: usize) -> Result<(), Fail> {
-    told(remembered.forget(car))
-}
-
-fn told(res: Result<(), Trouble>) -> Result<(), Fail> {
-    match res {
-        Ok(()) => Ok(()),
-        Err(_) => Err(Fail::new("no memory")),
-    }
+fn note(remembered: &mut Remembered, car: usize, address: usize) -> Result<(), Failure> {
+    remembered.note(Pair { car, address })
 }
 
 #[test]
@@ -28,12 +17,12 @@ fn a_full_slot_set_overflows(rt: HostRuntime) -> Result<(), Fail> {
     assert_eq!(rt; slots.count(0), 2048);
     note(&mut slots, 1, 5)?;
     assert_eq!(rt; slots.count(1), 8192);
-    forget(&mut slots, 0)?;
+    slots.forget(0);
     assert_eq!(rt; slots.count(0), 0);
     assert_eq!(rt; slots.count(1), 8192);
     note(&mut slots, 2, 8191)?;
     assert_eq!(rt; slots.count(2), 1);
-    forget(&mut slots, 1)?;
+    slots.forget(1);
     assert_eq!(rt; slots.count(1), 0);
     Ok(())
 }
@@ -61,7 +50,7 @@ fn a_full_buffer_goes_down_to_the_cards(rt: HostRuntime) -> Result<(), Fail> {
     assert_eq!(rt; cards.count(3), 256);
     note(&mut cards, 4, 1)?;
     assert_eq!(rt; cards.count(4), 1);
-    forget(&mut cards, 3)?;
+    cards.forget(3);
     assert_eq!(rt; cards.count(3), 0);
     assert_eq!(rt; cards.count(4), 1);
     Ok(())
@@ -93,9 +82,9 @@ fn a_full_buffer_goes_down_to_the_slots(rt: HostRuntime) -> Result<(), Fail> {
         note(&mut slots, 3, address)?;
     }
     assert_eq!(rt; slots.count(3), 17);
-    forget(&mut slots, 4)?;
+    slots.forget(4);
     assert_eq!(rt; slots.count(3), 17);
-    forget(&mut slots, 3)?;
+    slots.forget(3);
     assert_eq!(rt; slots.count(3), 0);
     Ok(())
 }
