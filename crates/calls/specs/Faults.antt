@@ -1,18 +1,23 @@
 -- What is wrong with a line.
 use Rattle.std.specs.Prelude.{ℕ, Ok, Err, Result}
+use Rattle.calls.specs.declared.faults.Position.{Position}
 use Rattle.calls.specs.declared.faults.WordFault.{WordFault}
 use Rattle.calls.specs.declared.faults.LineFault.{LineFault}
 use Rattle.calls.specs.declared.faults.LineFault.TheVariants.{Words, Number}
 use Rattle.calls.specs.declared.faults.PlayerFault.{PlayerFault}
 use Rattle.calls.specs.declared.faults.PlayerFault.TheVariants.{Reader}
 
+-- this place of the line with number n
+abbrev pub position_at : ℕ → ℕ → Position
+position_at n at = record { line = n; place = at }
+
 -- the word at this place of the line with number n is not a number of its range
 abbrev pub no_number : ℕ → ℕ → WordFault
-no_number n at = record { line = n; place = at }
+no_number n at = record { at = position_at n at }
 
 -- a word is missing, surplus, or names no call
 abbrev pub bad_words : ℕ → ℕ → LineFault
-bad_words n at = Words n at
+bad_words n at = Words (position_at n at)
 
 -- a word's fault as its line's
 abbrev pub line_fault : WordFault → LineFault
@@ -24,18 +29,13 @@ player_fault f = Reader f
 
 -- the number that a line shows for a fault
 abbrev pub fault_number : LineFault → ℕ
-fault_number (Words n at) = 9
+fault_number (Words at) = 9
 fault_number (Number f) = 10
 
--- the number of the line that has the fault
-abbrev pub fault_line : LineFault → ℕ
-fault_line (Words n at) = n
-fault_line (Number f) = f.line
-
--- where in its line the fault is
-abbrev pub fault_place : LineFault → ℕ
-fault_place (Words n at) = at
-fault_place (Number f) = f.place
+-- where a fault is
+abbrev pub fault_position : LineFault → Position
+fault_position (Words at) = at
+fault_position (Number f) = f.at
 
 -- the first fault counts; where there is none, f goes on with the value
 abbrev pub then : {X Y E : Type 0} → Result X E → (X → Result Y E) → Result Y E

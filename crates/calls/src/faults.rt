@@ -1,21 +1,27 @@
 // What the reader finds wrong, told layer by layer: a word's fault becomes its line's, and a line's the player's.
 ghost use Rattle.std.specs.Prelude.{◌≡◌};
-ghost use Rattle.calls.specs.Faults.{line_fault, player_fault, fault_number, fault_line, fault_place};
+ghost use Rattle.calls.specs.Faults.{line_fault, player_fault, fault_number, fault_position};
 
-/// A word that is not a number of its range.
+/// Where a fault is.
 #[derive(Clone, Copy, PartialEq, Eq, Debug)]
-pub struct WordFault {
+pub struct Position {
     /// The line's number in its script, from 1.
     pub line: u32,
-    /// Where the word begins in its line, in bytes from 0.
+    /// The place in the line, in bytes from 0.
     pub place: usize,
+}
+
+/// A word that is not a number of its range, by where it begins.
+#[derive(Clone, Copy, PartialEq, Eq, Debug)]
+pub struct WordFault {
+    pub at: Position,
 }
 
 /// What is wrong with a line.
 #[derive(Clone, Copy, PartialEq, Eq, Debug)]
 pub enum LineFault {
-    /// A word is missing, surplus, or names no call; line and place as in `WordFault`.
-    Words { line: u32, place: usize },
+    /// A word is missing, surplus, or names no call.
+    Words(Position),
     /// A word is not a number of its range.
     Number(WordFault),
 }
@@ -32,28 +38,17 @@ impl LineFault {
         ensures { result ≡ fault_number self }
     {
         match self {
-            LineFault::Words { .. } => 9,
+            LineFault::Words(_) => 9,
             LineFault::Number(_) => 10,
         }
     }
 
-    /// The number of the line that has the fault, from 1.
-    pub fn line(self) -> u32
-        ensures { result ≡ fault_line self }
+    /// Where the fault is: for a missing word, the end of its line.
+    pub fn position(self) -> Position
+        ensures { result ≡ fault_position self }
     {
         match self {
-            LineFault::Words { line, .. } => line,
-            LineFault::Number(word) => word.line,
-        }
-    }
-
-    /// Where in the line the fault is, in bytes from 0.
-    pub fn place(self) -> usize
-        ensures { result ≡ fault_place self }
-    {
-        match self {
-            LineFault::Words { place, .. } => place,
-            LineFault::Number(word) => word.place,
+            LineFault::Words(at) | LineFault::Number(WordFault { at }) => at,
         }
     }
 }

@@ -7,4 +7,4 @@ pub mod faults;
 
 pub use answer::{Answer, Freed, Refusal, Report, Usage};
 pub use call::Call;
-pub use faults::{LineFault, PlayerFault, WordFault};
+pub use faults::{LineFault, PlayerFault, Position, WordFault};

@@ -3,12 +3,11 @@ use Rattle.std.proofs.Common.{◌≡◌, true, [], ◌∷◌, ◌++◌, codes, r
 use Rattle.calls.specs.declared.answer.Answer.TheVariants.{Refused, Value, Tally, Step}
 use Rattle.calls.specs.declared.answer.Freed.TheVariants.{Car}
 use Rattle.calls.specs.declared.answer.Refusal.TheVariants.{Range}
-use Rattle.calls.specs.declared.faults.LineFault.TheVariants.{Words}
-use Rattle.calls.specs.declared.faults.PlayerFault.TheVariants.{Reader}
+use Rattle.calls.specs.Faults.{bad_words, player_fault}
 use Rattle.std.specs.Fmt.{digits}
 use Rattle.script_writer.specs.Writer.{answer_line, fault_line}
 
-pub a_fault : fault_line (Reader (Words 4 8)) ≡ codes "reader 9 line 4 at 8" ++ 10 ∷ []
+pub a_fault : fault_line (player_fault (bad_words 4 8)) ≡ codes "reader 9 line 4 at 8" ++ 10 ∷ []
 unfolding digits
 a_fault = refl
 

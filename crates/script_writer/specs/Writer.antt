@@ -6,7 +6,7 @@ use Rattle.calls.specs.declared.answer.Freed.{Freed}
 use Rattle.calls.specs.declared.answer.Freed.TheVariants.{Idle, Train, Car}
 use Rattle.calls.specs.declared.faults.PlayerFault.{PlayerFault}
 use Rattle.calls.specs.declared.faults.PlayerFault.TheVariants.{Reader}
-use Rattle.calls.specs.Faults as faults
+use Rattle.calls.specs.Faults.{fault_number, fault_position}
 use Rattle.calls.specs.Answers.{refusal_number}
 use Rattle.std.specs.Fmt.{decimal}
 use Rattle.std.specs.Int.{from_bool}
@@ -47,7 +47,8 @@ answer_line a = decimal (code_of a) ++ spaced (parts a)
 
 -- the line that tells a fault, as `reader 9 line 4 at 8`
 abbrev pub fault_line : PlayerFault → List ℕ
-fault_line (Reader f) = codes "reader" ++ spaced (decimal (faults.fault_number f) ∷ codes "line" ∷ decimal (faults.fault_line f) ∷ codes "at" ∷ decimal (faults.fault_place f) ∷ [])
+fault_line (Reader f) =
+    codes "reader" ++ spaced (decimal (fault_number f) ∷ codes "line" ∷ decimal (fault_position f).line ∷ codes "at" ∷ decimal (fault_position f).place ∷ [])
 
 -- the buffer with these bytes from `at` on, and all its other bytes as they were
 abbrev pub laid : List ℕ → ℕ → List ℕ → List ℕ

@@ -3,10 +3,9 @@ ghost use Rattle.std.specs.Prelude.{◌≡◌, ◌<◌, ◌≤◌, [], ◌∷◌
 ghost use Rattle.script_writer.specs.Writer.{freed_word, answer_line, fault_line, WritesLine};
 ghost use Rattle.script_writer.specs.declared.line.TheConstants.{LINE_ROOM};
 
+pub use crate::line::LINE_ROOM;
 use crate::line::Line;
 use calls::{Answer, Freed, PlayerFault};
-
-pub use crate::line::LINE_ROOM;
 
 fn freed_name(kind: Freed) -> &'static str
     ensures word { result.now ≡ freed_word kind }
@@ -62,12 +61,13 @@ fn put_fault(line: &mut Line, fault: PlayerFault)
     ensures short { length line.new < LINE_ROOM }
 {
     let PlayerFault::Reader(fault) = fault;
+    let at = fault.position();
     line.text("reader");
     line.number(fault.number());
     line.word("line");
-    line.number(fault.line());
+    line.number(at.line);
     line.word("at");
-    line.number(fault.place());
+    line.number(at.place);
 }
 
 /// Writes an answer's line at `at` and gives the place behind it, or none where fewer than 64 bytes stand there.
