@@ -1,14 +1,16 @@
 -- An array: 1 to 63 references and no data words.
-use Rattle.std.specs.Prelude.{◌≡◌, ℕ, ◌+◌, ◌%◌, ◌≤◌, true, cond, ◌&&◌, ◌==◌, nat_le, refl}
+use Rattle.std.specs.Prelude.{◌≡◌, ℕ, ◌+◌, ◌%◌, ◌≤◌, true, ◌&&◌, ◌==◌, nat_le, refl}
 use Rattle.std.proofs.Common.{◌∙◌, arith}
 use Rattle.std.proofs.lemmas.Bool.{and_parts, eqb-true, eqb-false, leb-true, ne_eqb, cond_both, cond-false}
+use Rattle.layout.specs.declared.array.TheConstants.{MOST_REFERENCES}
+use Rattle.layout.specs.LowPart.{low_part}
 use Rattle.layout.specs.Meaning.{Meaning, Apart, Lawful}
 use Rattle.layout.specs.Coding.{Coding, Coded, refs_first}
 
 abbrev pub array_meaning : Meaning
 array_meaning = record {
   kinds = 1;
-  admits = λ k r w. (k == 0) && (nat_le 1 r && (nat_le r 63 && w == 0));
+  admits = λ k r w. (k == 0) && (nat_le 1 r && (nat_le r MOST_REFERENCES && w == 0));
   ref_count = λ k r w. r;
   word_count = λ k r w. 0;
   ref_offset = λ k r w i. 1 + i;
@@ -17,7 +19,7 @@ array_meaning = record {
 
 -- the low six bits of a header, and 1 in the place of 0, which is no shape
 abbrev pub array_length : ℕ → ℕ
-array_length h = cond (h % 64 == 0) 1 (h % 64)
+array_length = low_part 64 1
 
 abbrev pub array_coding : Coding
 array_coding = record {
@@ -37,13 +39,13 @@ pub record ArrayShape (k r w : ℕ) : Type 0 where
 
 pub array_admits : (k r w : ℕ) → array_meaning.admits k r w ≡ true → ArrayShape k r w
 array_admits k r w a =
-    let p = and_parts (k == 0) (nat_le 1 r && (nat_le r 63 && w == 0)) a in
-    let q = and_parts (nat_le 1 r) (nat_le r 63 && w == 0) p.1 in
-    let s = and_parts (nat_le r 63) (w == 0) q.1 in
+    let p = and_parts (k == 0) (nat_le 1 r && (nat_le r MOST_REFERENCES && w == 0)) a in
+    let q = and_parts (nat_le 1 r) (nat_le r MOST_REFERENCES && w == 0) p.1 in
+    let s = and_parts (nat_le r MOST_REFERENCES) (w == 0) q.1 in
     record {
       first_kind = eqb-true k 0 p.0;
       some = leb-true 1 r q.0;
-      few_refs = leb-true r 63 s.0;
+      few_refs = leb-true r MOST_REFERENCES s.0;
       no_words = eqb-true w 0 s.1;
     }
 

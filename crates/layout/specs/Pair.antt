@@ -2,6 +2,7 @@
 use Rattle.std.specs.Prelude.{◌≡◌, ℕ, ◌+◌, ◌-◌, ◌*◌, ◌/◌, ◌%◌, ◌<◌, min, Bool, true, false, cond, ◌&&◌, ltb, ◌==◌, nat_lt, refl}
 use Rattle.std.proofs.Common.{ap, ◌∙◌, arith}
 use Rattle.std.proofs.lemmas.Bool.{true≢false, false≢true, and_parts, ltb-true, ltb-false, eq-eqb, ne_eqb, cond-true, cond-false}
+use Rattle.layout.specs.declared.pair.TheConstants.{LIMIT}
 use Rattle.layout.specs.Meaning.{Meaning, Apart, Lawful}
 use Rattle.layout.specs.Coding.{Coding, Coded, GivesBack}
 
@@ -11,7 +12,7 @@ most_kinds = 4294967295
 
 -- a shape is admitted only if its header in its own layout is below this: doubled, it is a word still
 abbrev pub half_headers : ℕ
-half_headers = 2147483648
+half_headers = LIMIT
 
 abbrev pub pair_meaning : (A : Meaning) (C : Coding) (B : Meaning) (D : Coding) → Meaning
 pair_meaning A C B D = record {

@@ -1,14 +1,16 @@
 -- A record: up to 15 references and up to 15 data words, one word at least, references first.
-use Rattle.std.specs.Prelude.{◌≡◌, ℕ, ◌+◌, ◌*◌, ◌/◌, ◌%◌, ◌≤◌, true, cond, ◌&&◌, ◌==◌, nat_le, refl}
+use Rattle.std.specs.Prelude.{◌≡◌, ℕ, ◌+◌, ◌*◌, ◌/◌, ◌%◌, ◌≤◌, true, ◌&&◌, ◌==◌, nat_le, refl}
 use Rattle.std.proofs.Common.{◌∙◌, arith}
 use Rattle.std.proofs.lemmas.Bool.{and_parts, eqb-true, eqb-false, leb-true, ne_eqb, cond_both, cond-false}
+use Rattle.layout.specs.declared.record.TheConstants.{MOST}
+use Rattle.layout.specs.LowPart.{low_part}
 use Rattle.layout.specs.Meaning.{Meaning, Apart, Lawful}
 use Rattle.layout.specs.Coding.{Coding, Coded, refs_first}
 
 abbrev pub record_meaning : Meaning
 record_meaning = record {
   kinds = 1;
-  admits = λ k r w. (k == 0) && (nat_le r 15 && (nat_le w 15 && nat_le 1 (r + w)));
+  admits = λ k r w. (k == 0) && (nat_le r MOST && (nat_le w MOST && nat_le 1 (r + w)));
   ref_count = λ k r w. r;
   word_count = λ k r w. w;
   ref_offset = λ k r w i. 1 + i;
@@ -17,7 +19,7 @@ record_meaning = record {
 
 -- the low eight bits of a header, and 16, one data word alone, in the place of 0, which is no shape
 abbrev pub record_shape : ℕ → ℕ
-record_shape h = cond (h % 256 == 0) 16 (h % 256)
+record_shape = low_part 256 16
 
 abbrev pub record_coding : Coding
 record_coding = record {
@@ -37,13 +39,13 @@ pub record RecordShape (k r w : ℕ) : Type 0 where
 
 pub record_admits : (k r w : ℕ) → record_meaning.admits k r w ≡ true → RecordShape k r w
 record_admits k r w a =
-    let p = and_parts (k == 0) (nat_le r 15 && (nat_le w 15 && nat_le 1 (r + w))) a in
-    let q = and_parts (nat_le r 15) (nat_le w 15 && nat_le 1 (r + w)) p.1 in
-    let s = and_parts (nat_le w 15) (nat_le 1 (r + w)) q.1 in
+    let p = and_parts (k == 0) (nat_le r MOST && (nat_le w MOST && nat_le 1 (r + w))) a in
+    let q = and_parts (nat_le r MOST) (nat_le w MOST && nat_le 1 (r + w)) p.1 in
+    let s = and_parts (nat_le w MOST) (nat_le 1 (r + w)) q.1 in
     record {
       first_kind = eqb-true k 0 p.0;
-      few_refs = leb-true r 15 q.0;
-      few_words = leb-true w 15 s.0;
+      few_refs = leb-true r MOST q.0;
+      few_words = leb-true w MOST s.0;
       some = leb-true 1 (r + w) s.1;
     }
 
