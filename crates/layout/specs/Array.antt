@@ -1,10 +1,10 @@
 -- An array: 1 to 63 references and no data words.
-use Rattle.std.specs.Prelude.{◌≡◌, ℕ, ◌+◌, ◌%◌, ◌≤◌, true, ◌&&◌, ◌==◌, nat_le, refl}
+use Rattle.std.specs.Prelude.{◌≡◌, ℕ, ◌+◌, ◌≤◌, true, ◌&&◌, ◌==◌, nat_le, refl}
 use Rattle.std.proofs.Common.{arith}
 use Rattle.std.proofs.lemmas.Bool.Decides.{nat_tests}
 use Rattle.layout.specs.declared.array.TheConstants.{MOST_REFERENCES}
 use Rattle.layout.specs.LowPart.{low_part, low_part-range, low_part-self}
-use Rattle.layout.specs.Meaning.{Meaning, Apart, Lawful}
+use Rattle.layout.specs.Meaning.{Meaning, Lawful}
 use Rattle.layout.specs.Coding.{Coding, Coded, refs_first}
 
 abbrev pub array_meaning : Meaning
@@ -51,15 +51,12 @@ array_lawful = record {
   apart = λ k r w a. let s = array_admits k r w a in refs_first r 0 (omega arith) (omega arith);
 }
 
-apart_of : (n : ℕ) → 1 ≤ n → n ≤ 63 → Apart n 0 (λ i. 1 + i) (λ j. 1 + n + j)
-apart_of n h k = refs_first n 0 (omega arith) (omega arith)
-
 pub array_coded : Coded array_meaning array_coding
 array_coded = record {
   few_kinds = omega arith;
   apart = λ h.
       let b = low_part-range 64 1 h (omega arith) (omega arith) in
-      apart_of (array_length h) b.0 (omega arith);
+      refs_first (array_length h) 0 (omega arith) (omega arith);
   gives_back = λ k r w a.
       let s = array_admits k r w a in
       let e : array_length r ≡ r = low_part-self 64 1 r (omega arith) (omega arith) in

@@ -4,7 +4,7 @@ use Rattle.std.proofs.Common.{arith}
 use Rattle.std.proofs.lemmas.Bool.Decides.{nat_tests}
 use Rattle.layout.specs.declared.record.TheConstants.{MOST}
 use Rattle.layout.specs.LowPart.{low_part, low_part-range, low_part-self}
-use Rattle.layout.specs.Meaning.{Meaning, Apart, Lawful}
+use Rattle.layout.specs.Meaning.{Meaning, Lawful}
 use Rattle.layout.specs.Coding.{Coding, Coded, refs_first}
 
 abbrev pub record_meaning : Meaning
@@ -51,15 +51,12 @@ record_lawful = record {
   apart = λ k r w a. let s = record_admits k r w a in refs_first r w (omega arith) (omega arith);
 }
 
-apart_of : (n : ℕ) → 1 ≤ n → n ≤ 255 → Apart (n % 16) (n / 16) (λ i. 1 + i) (λ j. 1 + n % 16 + j)
-apart_of n h k = refs_first (n % 16) (n / 16) (omega arith) (omega arith)
-
 pub record_coded : Coded record_meaning record_coding
 record_coded = record {
   few_kinds = omega arith;
   apart = λ h.
       let b = low_part-range 256 16 h (omega arith) (omega arith) in
-      apart_of (record_shape h) b.0 (omega arith);
+      refs_first (record_shape h % 16) (record_shape h / 16) (omega arith) (omega arith);
   gives_back = λ k r w a.
       let s = record_admits k r w a in
       let e : record_shape (r + 16 * w) ≡ r + 16 * w = low_part-self 256 16 (r + 16 * w) (omega arith) (omega arith) in
