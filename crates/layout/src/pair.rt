@@ -1,6 +1,7 @@
 // Two layouts beside each other. The lowest bit of a header tells which one it belongs to, so that pairs nest:
 // a pair of small headers has small headers again.
-ghost use Rattle.std.specs.Prelude.{◌≡◌, ◌+◌, ◌-◌, ◌*◌, ◌<◌, ◌≤◌, MatchOption};
+ghost use Rattle.std.specs.Prelude.{◌≡◌, ◌<◌};
+ghost use Rattle.std.specs.Option.{SomeIff};
 ghost use Rattle.layout.specs.Pair.{pair_meaning, pair_coding, pair_lawful, pair_coded, half_headers};
 
 use crate::{Layout, Shape};
@@ -97,7 +98,7 @@ impl Half {
 
     /// The header of the pair, if it fits a word.
     fn header(self) -> Option<u32>
-        ensures { MatchOption result (half_headers ≤ own_header self) (λ h. (own_header self < half_headers) × (h ≡ header_of self)) }
+        ensures { SomeIff result (own_header self < half_headers) (header_of self) }
     {
         match self {
             Half::First(own) if own < LIMIT => Some(2 * own),
