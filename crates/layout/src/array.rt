@@ -7,6 +7,7 @@ use crate::{Layout, Shape};
 /// The most references that an array has.
 pub const MOST_REFERENCES: u32 = 63;
 
+/// The layout of arrays.
 #[derive(Clone, Copy)]
 pub struct Array;
 

@@ -6,17 +6,20 @@ ghost use Rattle.layout.specs.Meaning.{Lawful};
 
 use crate::{Layout, Shape};
 
-#[derive(Clone, Copy, PartialEq, Eq, Debug)]
+/// How many references and data words an object has.
+#[derive(Clone, Copy, Debug, PartialEq, Eq)]
 pub struct Counts {
     pub references: u32,
     pub data_words: u32,
 }
 
-// From a shape to its header word and back to its counts: the header word alone gives a shape back.
+/// From a shape to its header word and back to its counts: the word alone gives a shape back.
 pub fn headers_give_back_shapes<L: Layout>(shape: Shape) -> Option<Counts>
-    ensures counts { MatchOption result (is_admitted L.Layout.meaning shape ≡ false) (GivesBackCounts L.Layout.meaning shape) }
-    ensures shapes { Lawful L.Layout.meaning }
-    ensures headers { Coded L.Layout.meaning L.Layout.coding }
+    ensures counts { MatchOption result
+        (is_admitted L.meaning shape ≡ false)
+        (GivesBackCounts L.meaning shape) }
+    ensures shapes { Lawful L.meaning }
+    ensures headers { Coded L.meaning L.coding }
 {
     let header = L::header(shape)?;
     Some(Counts {

@@ -12,8 +12,8 @@ pub mod product;
 pub mod record;
 mod words;
 
-/// A shape of objects: a kind, counted from 0, and two numbers, of references and of data words. A layout says what it
-/// makes of the numbers, and which shapes it admits.
+/// A shape of objects: a kind, counted from 0, and two numbers, of references and of data words.
+/// A layout says which shapes it admits, and what it makes of the numbers.
 #[derive(Clone, Copy, Debug, PartialEq, Eq)]
 pub struct Shape {
     pub kind: u32,
@@ -23,8 +23,8 @@ pub struct Shape {
 
 /// Which shapes of objects there are, and where the words of each stand.
 ///
-/// Every function takes any numbers: whatever a word of memory holds, it is the header of some object of 2 to 64 words,
-/// so that code above asks nothing of memory.
+/// Every function takes any numbers: whatever a word of memory holds, it is the header of some
+/// object of 2 to 64 words, so that code above asks nothing of memory.
 pub trait Layout {
     ghost meaning: { Meaning };
 

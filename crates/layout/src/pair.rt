@@ -1,11 +1,13 @@
-// Two layouts beside each other. The lowest bit of a header tells which one it belongs to, so that pairs nest:
-// a pair of small headers has small headers again.
+// Two layouts beside each other. The lowest bit of a header tells which one it belongs to, so that
+// pairs nest: a pair of small headers has small headers again.
 ghost use Rattle.std.specs.Prelude.{◌≡◌, ◌<◌};
 ghost use Rattle.std.specs.Option.{SomeIff};
-ghost use Rattle.layout.specs.Pair.{pair_meaning, pair_coding, pair_lawful, pair_coded, half_headers};
+ghost use Rattle.layout.specs.Pair.{pair_meaning, pair_coding, pair_lawful, pair_coded};
+ghost use Rattle.layout.specs.Pair.{half_headers};
 
 use crate::{Layout, Shape};
 
+/// The kinds of `A` come first, then those of `B`, each counted on from there.
 #[derive(Clone, Copy)]
 pub struct Pair<A: Layout, B: Layout> {
     pub first: A,
@@ -13,13 +15,13 @@ pub struct Pair<A: Layout, B: Layout> {
 }
 
 impl<A: Layout, B: Layout> Layout for Pair<A, B> {
-    ghost meaning = { pair_meaning A.Layout.meaning A.Layout.coding B.Layout.meaning B.Layout.coding };
+    ghost meaning = { pair_meaning A.meaning A.coding B.meaning B.coding };
 
-    ghost coding = { pair_coding A.Layout.meaning A.Layout.coding B.Layout.coding };
+    ghost coding = { pair_coding A.meaning A.coding B.coding };
 
-    ghost lawful = { pair_lawful A.Layout.meaning A.Layout.coding B.Layout.meaning B.Layout.coding A.Layout.lawful A.Layout.coded B.Layout.lawful };
+    ghost lawful = { pair_lawful A.meaning A.coding B.meaning B.coding A.lawful A.coded B.lawful };
 
-    ghost coded = { pair_coded A.Layout.meaning A.Layout.coding B.Layout.meaning B.Layout.coding A.Layout.coded B.Layout.coded };
+    ghost coded = { pair_coded A.meaning A.coding B.meaning B.coding A.coded B.coded };
 
     fn kinds() -> u32 {
         A::kinds().saturating_add(B::kinds())

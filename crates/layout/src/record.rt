@@ -1,13 +1,16 @@
 // Records: up to 15 references, and behind them up to 15 data words.
 ghost use Rattle.std.specs.Prelude.{◌≡◌};
-ghost use Rattle.layout.specs.Record.{record_meaning, record_coding, record_lawful, record_coded, record_shape};
+ghost use Rattle.layout.specs.Record.{record_meaning, record_coding, record_lawful, record_coded};
+ghost use Rattle.layout.specs.Record.{record_shape};
 
 use crate::words::{Run, low_part};
 use crate::{Layout, Shape};
 
-/// The most references that a record has, and the most data words: each number has four bits of the header.
+/// The most references that a record has, and the most data words: each number has four bits of
+/// the header.
 pub const MOST: u32 = 15;
 
+/// The layout of records.
 #[derive(Clone, Copy)]
 pub struct Record;
 
