@@ -1,5 +1,5 @@
 -- A header of a pair, as a header of one of its halves: the lowest bit tells whose it is.
-use Rattle.std.specs.Prelude.{◌≡◌, ℕ, ◌+◌, ◌*◌, ◌/◌, ◌%◌, Bool, cond, ◌==◌}
+use Rattle.std.specs.Prelude.{◌≡◌, ℕ, ◌+◌, ◌*◌, ◌/◌, ◌%◌, Bool, if◌then◌else◌, ◌==◌}
 use Rattle.std.proofs.Common.{arith}
 use Rattle.std.proofs.lemmas.Bool.Decides.{nat_tests}
 use Rattle.layout.specs.declared.pair.Half.{Half}
@@ -10,7 +10,7 @@ abbrev pub of_first : ℕ → Bool
 of_first h = h % 2 == 0
 
 abbrev pub half_of : ℕ → Half
-half_of h = cond (of_first h) (First (h / 2)) (Second (h / 2))
+half_of h = if of_first h then First (h / 2) else Second (h / 2)
 
 -- the header in the pair
 abbrev pub header_of : Half → ℕ

@@ -1,12 +1,12 @@
 -- What a header says in its low bits.
-use Rattle.std.specs.Prelude.{◌≡◌, ℕ, ◌%◌, ◌<◌, ◌≤◌, cond, ◌==◌}
+use Rattle.std.specs.Prelude.{◌≡◌, ℕ, ◌%◌, ◌<◌, ◌≤◌, if◌then◌else◌, ◌==◌}
 use Rattle.std.proofs.Common.{arith}
 use Rattle.std.proofs.Math.Nat.{mod-lt, mod-eq_of_lt}
 use Rattle.std.proofs.lemmas.Bool.Decides.{nat_tests}
 
 -- the remainder of a header, and another number in the place of 0, which is no shape's
 abbrev pub low_part : (modulus empty : ℕ) → ℕ → ℕ
-low_part m e h = cond (h % m == 0) e (h % m)
+low_part m e h = if h % m == 0 then e else h % m
 
 -- whatever the header is, this is above 0 and below the modulus
 pub low_part-range : (m e h : ℕ) → 1 ≤ e → e < m → (1 ≤ low_part m e h) × (low_part m e h < m)

@@ -1,5 +1,5 @@
 -- Two layouts beside each other: the first one's kinds come first, and the lowest bit of a header tells whose it is.
-use Rattle.std.specs.Prelude.{◌≡◌, ℕ, ◌+◌, ◌-◌, ◌<◌, min, Bool, true, false, cond, ◌&&◌, nat_lt, refl}
+use Rattle.std.specs.Prelude.{◌≡◌, ℕ, ◌+◌, ◌-◌, ◌<◌, min, Bool, true, false, if◌then◌else◌, ◌&&◌, nat_lt, refl}
 use Rattle.std.proofs.Common.{arith, inl, inr}
 use Rattle.std.proofs.lemmas.Bool.{cases_Bool}
 use Rattle.std.proofs.lemmas.Bool.Decides.{nat_tests}
@@ -20,18 +20,19 @@ half_headers = 2147483648
 abbrev pub pair_meaning : (A : Meaning) (C : Coding) (B : Meaning) (D : Coding) → Meaning
 pair_meaning A C B D = record {
   kinds = min (A.kinds + B.kinds) most_kinds;
-  admits = λ k r w. cond (nat_lt k A.kinds)
-      (A.admits k r w && nat_lt (C.code k r w) half_headers)
-      (nat_lt k most_kinds && (B.admits (k - A.kinds) r w && nat_lt (D.code (k - A.kinds) r w) half_headers));
-  ref_count = λ k r w. cond (nat_lt k A.kinds) (A.ref_count k r w) (B.ref_count (k - A.kinds) r w);
-  word_count = λ k r w. cond (nat_lt k A.kinds) (A.word_count k r w) (B.word_count (k - A.kinds) r w);
-  ref_offset = λ k r w i. cond (nat_lt k A.kinds) (A.ref_offset k r w i) (B.ref_offset (k - A.kinds) r w i);
-  word_offset = λ k r w j. cond (nat_lt k A.kinds) (A.word_offset k r w j) (B.word_offset (k - A.kinds) r w j);
+  admits = λ k r w.
+      if nat_lt k A.kinds
+      then A.admits k r w && nat_lt (C.code k r w) half_headers
+      else nat_lt k most_kinds && (B.admits (k - A.kinds) r w && nat_lt (D.code (k - A.kinds) r w) half_headers);
+  ref_count = λ k r w. if nat_lt k A.kinds then A.ref_count k r w else B.ref_count (k - A.kinds) r w;
+  word_count = λ k r w. if nat_lt k A.kinds then A.word_count k r w else B.word_count (k - A.kinds) r w;
+  ref_offset = λ k r w i. if nat_lt k A.kinds then A.ref_offset k r w i else B.ref_offset (k - A.kinds) r w i;
+  word_offset = λ k r w j. if nat_lt k A.kinds then A.word_offset k r w j else B.word_offset (k - A.kinds) r w j;
 }
 
 abbrev pub pair_coding : (A : Meaning) (C D : Coding) → Coding
 pair_coding A C D = record {
-  code = λ k r w. header_of (cond (nat_lt k A.kinds) (First (C.code k r w)) (Second (D.code (k - A.kinds) r w)));
+  code = λ k r w. header_of (if nat_lt k A.kinds then First (C.code k r w) else Second (D.code (k - A.kinds) r w));
   refs_of = λ h. in_half C.refs_of D.refs_of (half_of h);
   words_of = λ h. in_half C.words_of D.words_of (half_of h);
   ref_at = λ h i. in_half (λ own. C.ref_at own i) (λ own. D.ref_at own i) (half_of h);
@@ -41,7 +42,8 @@ pair_coding A C D = record {
 -- what holds of both layouts holds of the one that a test picks
 apart_either : (b : Bool) {p p' q q' : ℕ} {f f' g g' : ℕ → ℕ}
     → (b ≡ true → Apart p q f g) → (b ≡ false → Apart p' q' f' g')
-    → Apart (cond b p p') (cond b q q') (λ i. cond b (f i) (f' i)) (λ j. cond b (g j) (g' j))
+    → Apart (if b then p else p') (if b then q else q')
+    (λ i. if b then f i else f' i) (λ j. if b then g j else g' j)
 apart_either true x y = x refl
 apart_either false x y = y refl
 
