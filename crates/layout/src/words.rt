@@ -25,11 +25,7 @@ impl Run {
     pub(crate) fn offset_of(self, i: u32) -> Option<u32>
         ensures { SomeIff result (i < self.count) (self.first + i) }
     {
-        if i < self.count {
-            Some(self.first + i)
-        } else {
-            None
-        }
+        (i < self.count).then(|| self.first + i)
     }
 
     /// Which word stands at that offset, or none if none does.
