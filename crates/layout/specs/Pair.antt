@@ -39,7 +39,7 @@ pair_coding A C D = record {
   word_at = λ h j. in_half (λ own. C.word_at own j) (λ own. D.word_at own j) (half_of h);
 }
 
--- what holds of both layouts holds of the one that a test picks (rewriting by the test stops at the functions of i and j)
+-- what holds of both layouts holds of the one that a test picks; `rw` by the test does not reach under the λs
 apart_either : (b : Bool) {p p' q q' : ℕ} {f f' g g' : ℕ → ℕ}
     → (b ≡ true → Apart p q f g) → (b ≡ false → Apart p' q' f' g')
     → Apart (if b then p else p') (if b then q else q')
