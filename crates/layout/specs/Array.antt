@@ -1,14 +1,16 @@
 -- An array: 1 to 63 references and no data words.
-use Rattle.std.specs.Prelude.{◌≡◌, ℕ, ◌+◌, ◌%◌, ◌≤◌, true, cond, ◌&&◌, ◌==◌, nat_le, refl}
-use Rattle.std.proofs.Common.{◌∙◌, arith}
-use Rattle.std.proofs.lemmas.Bool.{and_parts, eqb-true, eqb-false, leb-true, ne_eqb, cond_both, cond-false}
-use Rattle.layout.specs.Meaning.{Meaning, Apart, Lawful}
+use Rattle.std.specs.Prelude.{◌≡◌, ℕ, ◌+◌, ◌≤◌, true, ◌&&◌, ◌==◌, nat_le, refl}
+use Rattle.std.proofs.Common.{arith}
+use Rattle.std.proofs.lemmas.Bool.Decides.{nat_tests}
+use Rattle.layout.specs.declared.array.TheConstants.{MOST_REFERENCES}
+use Rattle.layout.specs.LowPart.{low_part, low_part-range, low_part-self}
+use Rattle.layout.specs.Meaning.{Meaning, Lawful}
 use Rattle.layout.specs.Coding.{Coding, Coded, refs_first}
 
 abbrev pub array_meaning : Meaning
 array_meaning = record {
   kinds = 1;
-  admits = λ k r w. (k == 0) && (nat_le 1 r && (nat_le r 63 && w == 0));
+  admits = λ k r w. (k == 0) && (nat_le 1 r && (nat_le r MOST_REFERENCES && w == 0));
   ref_count = λ k r w. r;
   word_count = λ k r w. 0;
   ref_offset = λ k r w i. 1 + i;
@@ -17,7 +19,7 @@ array_meaning = record {
 
 -- the low six bits of a header, and 1 in the place of 0, which is no shape
 abbrev pub array_length : ℕ → ℕ
-array_length h = cond (h % 64 == 0) 1 (h % 64)
+array_length = low_part 64 1
 
 abbrev pub array_coding : Coding
 array_coding = record {
@@ -36,16 +38,12 @@ pub record ArrayShape (k r w : ℕ) : Type 0 where
   pub no_words : w ≡ 0
 
 pub array_admits : (k r w : ℕ) → array_meaning.admits k r w ≡ true → ArrayShape k r w
-array_admits k r w a =
-    let p = and_parts (k == 0) (nat_le 1 r && (nat_le r 63 && w == 0)) a in
-    let q = and_parts (nat_le 1 r) (nat_le r 63 && w == 0) p.1 in
-    let s = and_parts (nat_le r 63) (w == 0) q.1 in
-    record {
-      first_kind = eqb-true k 0 p.0;
-      some = leb-true 1 r q.0;
-      few_refs = leb-true r 63 s.0;
-      no_words = eqb-true w 0 s.1;
-    }
+array_admits k r w a = record {
+  first_kind = grind (arith, nat_tests);
+  some = grind (arith, nat_tests);
+  few_refs = grind (arith, nat_tests);
+  no_words = grind (arith, nat_tests);
+}
 
 pub array_lawful : Lawful array_meaning
 array_lawful = record {
@@ -53,26 +51,15 @@ array_lawful = record {
   apart = λ k r w a. let s = array_admits k r w a in refs_first r 0 (omega arith) (omega arith);
 }
 
-array_length_range : (h : ℕ) → (1 ≤ array_length h) × (array_length h ≤ 63)
-array_length_range h =
-    cond_both (h % 64 == 0) 1 (h % 64) (λ n. (1 ≤ n) × (n ≤ 63))
-    (λ e. (omega arith, omega arith))
-    (λ e. (omega (arith, eqb-false (h % 64) 0 e), omega arith))
-
-array_length_code : (n : ℕ) → 1 ≤ n → n ≤ 63 → array_length n ≡ n
-array_length_code n h k =
-    let e : n % 64 ≡ n = omega arith in
-    cond-false (n % 64 == 0) 1 (n % 64) (ne_eqb (n % 64) 0 (λ z. omega arith)) ∙ e
-
-apart_of : (n : ℕ) → 1 ≤ n → n ≤ 63 → Apart n 0 (λ i. 1 + i) (λ j. 1 + n + j)
-apart_of n h k = refs_first n 0 (omega arith) (omega arith)
-
 pub array_coded : Coded array_meaning array_coding
 array_coded = record {
   few_kinds = omega arith;
-  apart = λ h. let b = array_length_range h in apart_of (array_length h) b.0 b.1;
-  gives_back = λ k r w a. let s = array_admits k r w a in
-      let e : array_length r ≡ r = array_length_code r (omega arith) (omega arith) in
+  apart = λ h.
+      let b = low_part-range 64 1 h (omega arith) (omega arith) in
+      refs_first (array_length h) 0 (omega arith) (omega arith);
+  gives_back = λ k r w a.
+      let s = array_admits k r w a in
+      let e : array_length r ≡ r = low_part-self 64 1 r (omega arith) (omega arith) in
       record {
         fits = omega arith;
         refs = e;

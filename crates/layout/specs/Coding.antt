@@ -1,7 +1,8 @@
 -- How header words stand for shapes, and what a header word tells of its object, whatever the word is.
-use Rattle.std.specs.Prelude.{◌≡◌, ℕ, ◌+◌, ◌<◌, ◌≤◌, true, false, IfSome, Option, MatchOption, ◌≢◌}
+use Rattle.std.specs.Prelude.{◌≡◌, ℕ, ◌+◌, ◌<◌, ◌≤◌, Bool, true, false, IfSome, Option, MatchOption, ◌≢◌}
 use Rattle.std.proofs.Common.{arith}
 use Rattle.layout.specs.Meaning.{Meaning, Apart}
+use Rattle.layout.specs.declared.Shape.{Shape}
 
 pub record Coding : Type 0 where
   -- the header word of a shape; that of one not admitted means nothing
@@ -27,9 +28,14 @@ pub record Coded (M : Meaning) (C : Coding) : Type 0 where
   pub apart : (h : ℕ) → Apart (C.refs_of h) (C.words_of h) (C.ref_at h) (C.word_at h)
   pub gives_back : (k r w : ℕ) → M.admits k r w ≡ true → GivesBack M C k r w
 
+-- whether a shape is admitted
+abbrev pub is_admitted : Meaning → Shape → Bool
+is_admitted M s = M.admits s.kind s.refs s.words
+
 -- what a function that makes header words answers
-abbrev pub Headed : Meaning → Coding → (k r w : ℕ) → Option ℕ → Type 0
-Headed M C k r w o = MatchOption o (M.admits k r w ≡ false) (λ h. (M.admits k r w ≡ true) × (h ≡ C.code k r w))
+abbrev pub Headed : Meaning → Coding → Shape → Option ℕ → Type 0
+Headed M C s o =
+    MatchOption o (is_admitted M s ≡ false) (λ h. (is_admitted M s ≡ true) × (h ≡ C.code s.kind s.refs s.words))
 
 -- the i-th of n offsets, or none
 abbrev pub Nth : (n : ℕ) → (ℕ → ℕ) → (i : ℕ) → Option ℕ → Type 0

@@ -3,4 +3,7 @@ pub mod Coding
 pub mod Record
 pub mod Array
 pub mod Pair
+pub mod LowPart
+pub mod Halves
 pub mod Product
+pub mod Counts

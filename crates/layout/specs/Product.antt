@@ -1,5 +1,7 @@
 -- The product's layout: records are kind 0 and arrays kind 1.
-use Rattle.std.specs.Prelude.{◌≡◌, ℕ, ◌+◌, ◌<◌, ◌≤◌, true, ◌⊎◌}
+use Rattle.std.specs.Prelude.{◌≡◌, ℕ, ◌+◌, ◌<◌, ◌≤◌, true, ◌⊎◌, Option}
+use Rattle.std.specs.Option.{SomeIff}
+use Rattle.layout.specs.declared.Shape.{Shape}
 use Rattle.layout.specs.Meaning.{Meaning}
 use Rattle.layout.specs.Coding.{Coding}
 use Rattle.layout.specs.Record.{record_meaning, record_coding}
@@ -17,6 +19,10 @@ abbrev pub ProductShape : (kind refs words : ℕ) → Type 0
 ProductShape k r w =
     ((k ≡ 0) × (r ≤ 15) × (w ≤ 15) × (1 ≤ r + w))
     ⊎ ((k ≡ 1) × (1 ≤ r) × (r ≤ 63) × (w ≡ 0))
+
+-- the header word of a shape, or none if it is no shape of the product
+abbrev pub HeadedProduct : Shape → Option ℕ → Type 0
+HeadedProduct s o = SomeIff o (ProductShape s.kind s.refs s.words) (product_coding.code s.kind s.refs s.words)
 
 -- what an object of an admitted shape is like
 pub record ProductObject (M : Meaning) (C : Coding) (k r w : ℕ) : Type 0 where

@@ -1,14 +1,16 @@
 -- A record: up to 15 references and up to 15 data words, one word at least, references first.
-use Rattle.std.specs.Prelude.{◌≡◌, ℕ, ◌+◌, ◌*◌, ◌/◌, ◌%◌, ◌≤◌, true, cond, ◌&&◌, ◌==◌, nat_le, refl}
-use Rattle.std.proofs.Common.{◌∙◌, arith}
-use Rattle.std.proofs.lemmas.Bool.{and_parts, eqb-true, eqb-false, leb-true, ne_eqb, cond_both, cond-false}
-use Rattle.layout.specs.Meaning.{Meaning, Apart, Lawful}
+use Rattle.std.specs.Prelude.{◌≡◌, ℕ, ◌+◌, ◌*◌, ◌/◌, ◌%◌, ◌≤◌, true, ◌&&◌, ◌==◌, nat_le, refl}
+use Rattle.std.proofs.Common.{arith}
+use Rattle.std.proofs.lemmas.Bool.Decides.{nat_tests}
+use Rattle.layout.specs.declared.record.TheConstants.{MOST}
+use Rattle.layout.specs.LowPart.{low_part, low_part-range, low_part-self}
+use Rattle.layout.specs.Meaning.{Meaning, Lawful}
 use Rattle.layout.specs.Coding.{Coding, Coded, refs_first}
 
 abbrev pub record_meaning : Meaning
 record_meaning = record {
   kinds = 1;
-  admits = λ k r w. (k == 0) && (nat_le r 15 && (nat_le w 15 && nat_le 1 (r + w)));
+  admits = λ k r w. (k == 0) && (nat_le r MOST && (nat_le w MOST && nat_le 1 (r + w)));
   ref_count = λ k r w. r;
   word_count = λ k r w. w;
   ref_offset = λ k r w i. 1 + i;
@@ -17,7 +19,7 @@ record_meaning = record {
 
 -- the low eight bits of a header, and 16, one data word alone, in the place of 0, which is no shape
 abbrev pub record_shape : ℕ → ℕ
-record_shape h = cond (h % 256 == 0) 16 (h % 256)
+record_shape = low_part 256 16
 
 abbrev pub record_coding : Coding
 record_coding = record {
@@ -36,16 +38,12 @@ pub record RecordShape (k r w : ℕ) : Type 0 where
   pub some : 1 ≤ r + w
 
 pub record_admits : (k r w : ℕ) → record_meaning.admits k r w ≡ true → RecordShape k r w
-record_admits k r w a =
-    let p = and_parts (k == 0) (nat_le r 15 && (nat_le w 15 && nat_le 1 (r + w))) a in
-    let q = and_parts (nat_le r 15) (nat_le w 15 && nat_le 1 (r + w)) p.1 in
-    let s = and_parts (nat_le w 15) (nat_le 1 (r + w)) q.1 in
-    record {
-      first_kind = eqb-true k 0 p.0;
-      few_refs = leb-true r 15 q.0;
-      few_words = leb-true w 15 s.0;
-      some = leb-true 1 (r + w) s.1;
-    }
+record_admits k r w a = record {
+  first_kind = grind (arith, nat_tests);
+  few_refs = grind (arith, nat_tests);
+  few_words = grind (arith, nat_tests);
+  some = grind (arith, nat_tests);
+}
 
 pub record_lawful : Lawful record_meaning
 record_lawful = record {
@@ -53,26 +51,15 @@ record_lawful = record {
   apart = λ k r w a. let s = record_admits k r w a in refs_first r w (omega arith) (omega arith);
 }
 
-record_shape_range : (h : ℕ) → (1 ≤ record_shape h) × (record_shape h ≤ 255)
-record_shape_range h =
-    cond_both (h % 256 == 0) 16 (h % 256) (λ n. (1 ≤ n) × (n ≤ 255))
-    (λ e. (omega arith, omega arith))
-    (λ e. (omega (arith, eqb-false (h % 256) 0 e), omega arith))
-
-record_shape_code : (n : ℕ) → 1 ≤ n → n ≤ 255 → record_shape n ≡ n
-record_shape_code n h k =
-    let e : n % 256 ≡ n = omega arith in
-    cond-false (n % 256 == 0) 16 (n % 256) (ne_eqb (n % 256) 0 (λ z. omega arith)) ∙ e
-
-apart_of : (n : ℕ) → 1 ≤ n → n ≤ 255 → Apart (n % 16) (n / 16) (λ i. 1 + i) (λ j. 1 + n % 16 + j)
-apart_of n h k = refs_first (n % 16) (n / 16) (omega arith) (omega arith)
-
 pub record_coded : Coded record_meaning record_coding
 record_coded = record {
   few_kinds = omega arith;
-  apart = λ h. let b = record_shape_range h in apart_of (record_shape h) b.0 b.1;
-  gives_back = λ k r w a. let s = record_admits k r w a in
-      let e : record_shape (r + 16 * w) ≡ r + 16 * w = record_shape_code (r + 16 * w) (omega arith) (omega arith) in
+  apart = λ h.
+      let b = low_part-range 256 16 h (omega arith) (omega arith) in
+      refs_first (record_shape h % 16) (record_shape h / 16) (omega arith) (omega arith);
+  gives_back = λ k r w a.
+      let s = record_admits k r w a in
+      let e : record_shape (r + 16 * w) ≡ r + 16 * w = low_part-self 256 16 (r + 16 * w) (omega arith) (omega arith) in
       record {
         fits = omega arith;
         refs = rw e (omega arith);

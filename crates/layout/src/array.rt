@@ -1,8 +1,13 @@
 // Arrays: 1 to 63 references and no data words.
 ghost use Rattle.layout.specs.Array.{array_meaning, array_coding, array_lawful, array_coded};
 
-use crate::Layout;
+use crate::words::{Run, low_part};
+use crate::{Layout, Shape};
 
+/// The most references that an array has.
+pub const MOST_REFERENCES: u32 = 63;
+
+/// The layout of arrays.
 #[derive(Clone, Copy)]
 pub struct Array;
 
@@ -19,17 +24,16 @@ impl Layout for Array {
         1
     }
 
-    fn header(kind: u32, refs: u32, words: u32) -> Option<u32> {
-        if kind > 0 || refs < 1 || refs > 63 || words > 0 {
-            return None;
+    fn header(shape: Shape) -> Option<u32> {
+        match (shape.kind, shape.refs, shape.words) {
+            (0, refs @ 1..=MOST_REFERENCES, 0) => Some(refs),
+            _ => None,
         }
-        Some(refs)
     }
 
-    // The low six bits. No array is empty, so a word that says so stands for one reference.
+    // No array is empty, so a word that says so stands for one reference.
     fn references(header: u32) -> u32 {
-        let low = header % 64;
-        if low == 0 { 1 } else { low }
+        low_part::<64>(header, 1)
     }
 
     fn data_words(_header: u32) -> u32 {
@@ -37,11 +41,7 @@ impl Layout for Array {
     }
 
     fn reference_offset(header: u32, i: u32) -> Option<u32> {
-        if i < Self::references(header) {
-            Some(1 + i)
-        } else {
-            None
-        }
+        Run::behind_header(Self::references(header)).offset_of(i)
     }
 
     fn word_offset(_header: u32, _j: u32) -> Option<u32> {
@@ -49,11 +49,6 @@ impl Layout for Array {
     }
 
     fn reference_at(header: u32, offset: u32) -> Option<u32> {
-        let i = offset.checked_sub(1)?;
-        if i < Self::references(header) {
-            Some(i)
-        } else {
-            None
-        }
+        Run::behind_header(Self::references(header)).word_at(offset)
     }
 }

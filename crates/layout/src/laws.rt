@@ -1,32 +1,29 @@
 // What holds of every layout.
-ghost use Rattle.std.specs.Prelude.{◌≡◌, true, false, MatchOption};
-ghost use Rattle.layout.specs.Coding.{Coded};
+ghost use Rattle.std.specs.Prelude.{◌≡◌, false, MatchOption};
+ghost use Rattle.layout.specs.Coding.{Coded, is_admitted};
+ghost use Rattle.layout.specs.Counts.{GivesBackCounts};
 ghost use Rattle.layout.specs.Meaning.{Lawful};
 
-use crate::Layout;
+use crate::{Layout, Shape};
 
-#[derive(Clone, Copy, PartialEq, Eq, Debug)]
+/// How many references and data words an object has.
+#[derive(Clone, Copy, Debug, PartialEq, Eq)]
 pub struct Counts {
     pub references: u32,
     pub data_words: u32,
 }
 
-// From a shape to its header word and back to its counts: the header word alone gives a shape back.
-pub fn headers_give_back_shapes<L: Layout>(kind: u32, refs: u32, words: u32) -> Option<Counts>
-    ensures counts { MatchOption result (L.Layout.meaning.admits kind refs words ≡ false) (λ c. (L.Layout.meaning.admits kind refs words ≡ true) × (c.references ≡ L.Layout.meaning.ref_count kind refs words) × (c.data_words ≡ L.Layout.meaning.word_count kind refs words)) }
-    ensures shapes { Lawful L.Layout.meaning }
-    ensures headers { Coded L.Layout.meaning L.Layout.coding }
+/// From a shape to its header word and back to its counts: the word alone gives a shape back.
+pub fn headers_give_back_shapes<L: Layout>(shape: Shape) -> Option<Counts>
+    ensures counts { MatchOption result
+        (is_admitted L.meaning shape ≡ false)
+        (GivesBackCounts L.meaning shape) }
+    ensures shapes { Lawful L.meaning }
+    ensures headers { Coded L.meaning L.coding }
 {
-    laws_stand::<L>();
-    let header = L::header(kind, refs, words)?;
+    let header = L::header(shape)?;
     Some(Counts {
         references: L::references(header),
         data_words: L::data_words(header),
     })
 }
-
-// A function with no code, whose contract is the laws of a layout; a call brings them in.
-fn laws_stand<L: Layout>()
-    ensures shapes { Lawful L.Layout.meaning }
-    ensures headers { Coded L.Layout.meaning L.Layout.coding }
-{}

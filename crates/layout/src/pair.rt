@@ -1,10 +1,13 @@
-// Two layouts beside each other. The lowest bit of a header tells which one it belongs to, so that pairs nest:
-// a pair of small headers has small headers again.
-ghost use Rattle.std.specs.Prelude.{◌≡◌, ◌+◌, ◌-◌, ◌*◌, ◌<◌, ◌≤◌, MatchOption};
-ghost use Rattle.layout.specs.Pair.{pair_meaning, pair_coding, pair_lawful, pair_coded, half_headers};
+// Two layouts beside each other. The lowest bit of a header tells which one it belongs to, so that
+// pairs nest: a pair of small headers has small headers again.
+ghost use Rattle.std.specs.Prelude.{◌≡◌, ◌<◌};
+ghost use Rattle.std.specs.Option.{SomeIff};
+ghost use Rattle.layout.specs.Pair.{pair_meaning, pair_coding, pair_lawful, pair_coded};
+ghost use Rattle.layout.specs.Pair.{half_headers};
 
-use crate::Layout;
+use crate::{Layout, Shape};
 
+/// The kinds of `A` come first, then those of `B`, each counted on from there.
 #[derive(Clone, Copy)]
 pub struct Pair<A: Layout, B: Layout> {
     pub first: A,
@@ -12,81 +15,97 @@ pub struct Pair<A: Layout, B: Layout> {
 }
 
 impl<A: Layout, B: Layout> Layout for Pair<A, B> {
-    ghost meaning = { pair_meaning A.Layout.meaning A.Layout.coding B.Layout.meaning B.Layout.coding };
+    ghost meaning = { pair_meaning A.meaning A.coding B.meaning B.coding };
 
-    ghost coding = { pair_coding A.Layout.meaning A.Layout.coding B.Layout.coding };
+    ghost coding = { pair_coding A.meaning A.coding B.coding };
 
-    ghost lawful = { pair_lawful A.Layout.meaning A.Layout.coding B.Layout.meaning B.Layout.coding A.Layout.lawful A.Layout.coded B.Layout.lawful };
+    ghost lawful = { pair_lawful A.meaning A.coding B.meaning B.coding A.lawful A.coded B.lawful };
 
-    ghost coded = { pair_coded A.Layout.meaning A.Layout.coding B.Layout.meaning B.Layout.coding A.Layout.coded B.Layout.coded };
+    ghost coded = { pair_coded A.meaning A.coding B.meaning B.coding A.coded B.coded };
 
     fn kinds() -> u32 {
         A::kinds().saturating_add(B::kinds())
     }
 
-    fn header(kind: u32, refs: u32, words: u32) -> Option<u32> {
-        let first = A::kinds();
-        if kind < first {
-            doubled(A::header(kind, refs, words)?, 0)
-        } else if kind < u32::MAX {
-            doubled(B::header(kind - first, refs, words)?, 1)
-        } else {
-            None
-        }
+    fn header(shape: Shape) -> Option<u32> {
+        let half = match shape.kind.checked_sub(A::kinds()) {
+            None => Half::First(A::header(shape)?),
+            Some(_) if shape.kind == u32::MAX => return None,
+            Some(kind) => Half::Second(B::header(Shape { kind, ..shape })?),
+        };
+        half.header()
     }
 
     fn references(header: u32) -> u32 {
-        if header % 2 == 0 {
-            A::references(header / 2)
-        } else {
-            B::references(header / 2)
+        match Half::from(header) {
+            Half::First(own) => A::references(own),
+            Half::Second(own) => B::references(own),
         }
     }
 
     fn data_words(header: u32) -> u32 {
-        if header % 2 == 0 {
-            A::data_words(header / 2)
-        } else {
-            B::data_words(header / 2)
+        match Half::from(header) {
+            Half::First(own) => A::data_words(own),
+            Half::Second(own) => B::data_words(own),
         }
     }
 
     fn reference_offset(header: u32, i: u32) -> Option<u32> {
-        if header % 2 == 0 {
-            A::reference_offset(header / 2, i)
-        } else {
-            B::reference_offset(header / 2, i)
+        match Half::from(header) {
+            Half::First(own) => A::reference_offset(own, i),
+            Half::Second(own) => B::reference_offset(own, i),
         }
     }
 
     fn word_offset(header: u32, j: u32) -> Option<u32> {
-        if header % 2 == 0 {
-            A::word_offset(header / 2, j)
-        } else {
-            B::word_offset(header / 2, j)
+        match Half::from(header) {
+            Half::First(own) => A::word_offset(own, j),
+            Half::Second(own) => B::word_offset(own, j),
         }
     }
 
     fn reference_at(header: u32, offset: u32) -> Option<u32> {
-        if header % 2 == 0 {
-            A::reference_at(header / 2, offset)
-        } else {
-            B::reference_at(header / 2, offset)
+        match Half::from(header) {
+            Half::First(own) => A::reference_at(own, offset),
+            Half::Second(own) => B::reference_at(own, offset),
         }
     }
 }
 
-// Headers from here on cannot be doubled.
-const LIMIT: u32 = 2147483648;
+/// Headers from here on cannot be doubled.
+const LIMIT: u32 = 1 << 31;
 
-// A header of the first (0) or of the second (1) layout as a header of the pair, if twice its value is still a word.
-fn doubled(own: u32, half: u32) -> Option<u32>
-    requires { half < 2 }
-    ensures { MatchOption result (half_headers ≤ own) (λ h. (own < half_headers) × (h ≡ 2 * own + half)) }
-{
-    if own < LIMIT {
-        Some(2 * own + half)
-    } else {
-        None
+/// A header of a pair, as a header of the half that it belongs to.
+#[derive(Clone, Copy)]
+enum Half {
+    First(u32),
+    Second(u32),
+}
+
+impl From<u32> for Half {
+    ghost use Rattle.layout.specs.Halves.{half_of};
+
+    ghost from_gives = { λ header half. half ≡ half_of header };
+
+    fn from(header: u32) -> Self {
+        match header % 2 {
+            0 => Half::First(header / 2),
+            _ => Half::Second(header / 2),
+        }
+    }
+}
+
+impl Half {
+    ghost use Rattle.layout.specs.Halves.{own_header, header_of};
+
+    /// The header of the pair, if it fits a word.
+    fn header(self) -> Option<u32>
+        ensures { SomeIff result (own_header self < half_headers) (header_of self) }
+    {
+        match self {
+            Half::First(own) if own < LIMIT => Some(2 * own),
+            Half::Second(own) if own < LIMIT => Some(2 * own + 1),
+            _ => None,
+        }
     }
 }

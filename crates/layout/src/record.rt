@@ -1,9 +1,16 @@
 // Records: up to 15 references, and behind them up to 15 data words.
 ghost use Rattle.std.specs.Prelude.{◌≡◌};
-ghost use Rattle.layout.specs.Record.{record_meaning, record_coding, record_lawful, record_coded, record_shape};
+ghost use Rattle.layout.specs.Record.{record_meaning, record_coding, record_lawful, record_coded};
+ghost use Rattle.layout.specs.Record.{record_shape};
 
-use crate::Layout;
+use crate::words::{Run, low_part};
+use crate::{Layout, Shape};
 
+/// The most references that a record has, and the most data words: each number has four bits of
+/// the header.
+pub const MOST: u32 = 15;
+
+/// The layout of records.
 #[derive(Clone, Copy)]
 pub struct Record;
 
@@ -20,11 +27,12 @@ impl Layout for Record {
         1
     }
 
-    fn header(kind: u32, refs: u32, words: u32) -> Option<u32> {
-        if kind > 0 || refs > 15 || words > 15 || refs + words == 0 {
-            return None;
+    fn header(shape: Shape) -> Option<u32> {
+        match (shape.kind, shape.refs, shape.words) {
+            (0, 0, 0) => None,
+            (0, refs @ 0..=MOST, words @ 0..=MOST) => Some(refs + 16 * words),
+            _ => None,
         }
-        Some(refs + 16 * words)
     }
 
     fn references(header: u32) -> u32 {
@@ -36,28 +44,19 @@ impl Layout for Record {
     }
 
     fn reference_offset(header: u32, i: u32) -> Option<u32> {
-        if i < Self::references(header) {
-            Some(1 + i)
-        } else {
-            None
-        }
+        Run::behind_header(Self::references(header)).offset_of(i)
     }
 
     fn word_offset(header: u32, j: u32) -> Option<u32> {
-        if j < Self::data_words(header) {
-            Some(1 + Self::references(header) + j)
-        } else {
-            None
-        }
+        let data_words = Run {
+            first: 1 + Self::references(header),
+            count: Self::data_words(header),
+        };
+        data_words.offset_of(j)
     }
 
     fn reference_at(header: u32, offset: u32) -> Option<u32> {
-        let i = offset.checked_sub(1)?;
-        if i < Self::references(header) {
-            Some(i)
-        } else {
-            None
-        }
+        Run::behind_header(Self::references(header)).word_at(offset)
     }
 }
 
@@ -66,6 +65,5 @@ impl Layout for Record {
 fn shape(header: u32) -> u32
     ensures { result ≡ record_shape header }
 {
-    let low = header % 256;
-    if low == 0 { 16 } else { low }
+    low_part::<256>(header, 16)
 }
