@@ -1,15 +1,16 @@
 -- Laws of the buffered set.
-use Rattle.std.specs.Prelude.{◌≡◌, ℕ, ◌+◌, ◌<◌, ◌≤◌, Bool, true, false, not, ◌&&◌, ◌||◌, ltb, List, [], ◌∷◌, ◌++◌, length, get_or, take, Some, None, Option, ◌==◌, ◌≢◌, nat_lt, slice_index_or, slice_set, refl}
+use Rattle.std.specs.Prelude.{◌≡◌, ℕ, ◌+◌, ◌<◌, ◌≤◌, Bool, true, false, not, ◌&&◌, ◌||◌, ltb, List, [], ◌∷◌, ◌++◌, length, get_or, take, Some, None, Option, ◌==◌, nat_lt, refl}
 use Rattle.std.proofs.Common.{sym, ap, subst, ◌∙◌, ⊎_elim}
-use Rattle.std.proofs.lemmas.List.{take_more, take_more_set, append-nil}
-use Rattle.std.proofs.lemmas.Bool.{cases_lt, cases_Bool, eq-eqb, ne_eqb, and_from, and_parts, and_cases, ltb-true, ltb-false, or_left, or_right, or_cases, both_ways, not-false}
+use Rattle.std.proofs.lemmas.List.{take_more}
+use Rattle.std.proofs.lemmas.List.Folds.{list_any_more}
+use Rattle.std.proofs.lemmas.Bool.{cases_lt, cases_Bool, ne_eqb, and_from, and_parts, and_cases, ltb-true, ltb-false, or_left, or_right, or_cases, both_ways, not-false}
 use Rattle.remembered.specs.declared.Pair.{Pair}
 use Rattle.remembered.specs.Laws.{in_range, new_in, Keeps, KeepsOthers, Least}
 use Rattle.remembered.specs.Meaning.{note, forget, Row, Meaning, Lawful}
-use Rattle.remembered.specs.Pairs.{pair, is_pair, within, without, unless}
+use Rattle.remembered.specs.Pairs.{pair, is_pair, within, without}
 use Rattle.remembered.specs.Buffers.{Buffer, buffer_in, sent, buffer_add, buffer_run, buffered, Ranged, with_held, Sends, BufferNoted, BufferForgot, BufferTold}
 use Rattle.remembered.specs.CardLaws.{range_from, range_parts}
-use Rattle.remembered.specs.PairLists.{within_push, without_append, within-without, pair_parts, pair_from}
+use Rattle.remembered.specs.PairLists.{within_push, within-without, pair_parts, pair_from}
 use Rattle.remembered.specs.Words.{or_none}
 
 -- held pairs in range
@@ -23,39 +24,24 @@ ranged_push ps p hc ha h c a e =
 pub ranged_without : (ps : List Pair) (d : ℕ) → Ranged ps → Ranged (without d ps)
 ranged_without ps d h c a e = h c a (and_parts (not (c == d)) (within ps c a) (sym (within-without d ps c a) ∙ e)).1
 
-abbrev pub P0 : Pair
-P0 = pair 0 0
-
 -- the least of two sets that agree
 pub least_same : (P Q : ℕ → Bool) (from : ℕ) (r : Option ℕ) → ((a : ℕ) → P a ≡ Q a) → Least P from r → Least Q from r
 least_same P Q from None e h = λ a k. sym (e a) ∙ h a k
 least_same P Q from (Some x) e h = (h.0, sym (e x) ∙ h.1, λ a k m. sym (e a) ∙ h.2 a k m)
 
-or_regroup : (x y z : Bool) → ((x || y) || z) ≡ (x || (y || z))
-or_regroup true y z = refl
-or_regroup false y z = refl
-
 -- none held, and one more
 pub least_start : (H : ℕ → ℕ → Bool) (car from : ℕ) (r : Option ℕ) → Least (H car) from r → Least (with_held H [] car) from r
 least_start H car from r h = least_same (H car) (with_held H [] car) from r (λ a. sym (or_none (H car a))) h
 
-pub least_more : (H : ℕ → ℕ → Bool) (l : List Pair) (i car from : ℕ) (r : Option ℕ) → i < length l → Least (λ a. with_held H (take i l) car a || is_pair (slice_index_or l i P0) car a) from r → Least (with_held H (take (i + 1) l) car) from r
-least_more H l i car from r lt h =
+pub least_more : (H : ℕ → ℕ → Bool) (l : List Pair) (i : ℕ) (d : Pair) (car from : ℕ) (r : Option ℕ) → i < length l → Least (λ a. with_held H (take i l) car a || is_pair (get_or l i d) car a) from r → Least (with_held H (take (i + 1) l) car) from r
+least_more H l i d car from r lt h =
     least_same _ (with_held H (take (i + 1) l) car) from r
-    (λ a. or_regroup (H car a) (within (take i l) car a) (is_pair (slice_index_or l i P0) car a) ∙ ap (λ b. H car a || b) (sym (ap (λ xs. within xs car a) (take_more l i P0 lt) ∙ within_push (take i l) (slice_index_or l i P0) car a)))
+    (λ a. or_regroup (H car a) (within (take i l) car a) _ ∙ ap (λ b. H car a || b) (sym (list_any_more (λ p. is_pair p car a) l i d lt)))
     h
-
--- one pair of the list dropped or kept
-pub drop_skip : (c : ℕ) (l : List Pair) (i : ℕ) → i < length l → (get_or l i P0).car ≡ c → without c (take (i + 1) l) ≡ without c (take i l)
-drop_skip c l i lt e =
-    ap (without c) (take_more l i P0 lt) ∙ without_append c (take i l) (slice_index_or l i P0 ∷ [])
-    ∙ ap (λ b. without c (take i l) ++ unless b (slice_index_or l i P0) []) (eq-eqb (get_or l i P0).car c e) ∙ append-nil (without c (take i l))
-
-pub drop_keep : (c : ℕ) (l f : List Pair) (i n : ℕ) → i < length l → n < length f → ((get_or l i P0).car ≢ c) → take n f ≡ without c (take i l) → take (n + 1) (slice_set f n (slice_index_or l i P0)) ≡ without c (take (i + 1) l)
-drop_keep c l f i n lt ln ne e =
-    take_more_set f n (slice_index_or l i P0) ln ∙ ap (λ xs. xs ++ (slice_index_or l i P0 ∷ [])) e
-    ∙ ap (λ b. without c (take i l) ++ unless b (slice_index_or l i P0) []) (sym (ne_eqb (get_or l i P0).car c ne))
-    ∙ sym (ap (without c) (take_more l i P0 lt) ∙ without_append c (take i l) (slice_index_or l i P0 ∷ []))
+  where
+    or_regroup : (x y z : Bool) → ((x || y) || z) ≡ (x || (y || z))
+    or_regroup true y z = refl
+    or_regroup false y z = refl
 
 -- sending pairs down, one after another
 pub sends_none : {S : Type 0} (N : S → ℕ → ℕ → S → Type 0) (s : S) → Sends N s [] s
@@ -67,8 +53,8 @@ unfolding Sends
 sends_push N s [] t p u e n = (u, subst (λ x. N x p.car p.address u) e n, refl)
 sends_push N s (q ∷ ps) t p u h n = (h.0, h.1, sends_push N h.0 ps t p u h.2 n)
 
-pub sends_more : {S : Type 0} (N : S → ℕ → ℕ → S → Type 0) (s : S) (l : List Pair) (i : ℕ) (t u : S) → i < length l → Sends N s (take i l) t → N t (get_or l i P0).car (get_or l i P0).address u → Sends N s (take (i + 1) l) u
-sends_more N s l i t u lt h n = subst (λ xs. Sends N s xs u) (sym (take_more l i P0 lt)) (sends_push N s (take i l) t (slice_index_or l i P0) u h n)
+pub sends_more : {S : Type 0} (N : S → ℕ → ℕ → S → Type 0) (s : S) (l : List Pair) (i : ℕ) (d : Pair) (t u : S) → i < length l → Sends N s (take i l) t → N t (get_or l i d).car (get_or l i d).address u → Sends N s (take (i + 1) l) u
+sends_more N s l i d t u lt h n = subst (λ xs. Sends N s xs u) (sym (take_more l i d lt)) (sends_push N s (take i l) t (get_or l i d) u h n)
 
 -- what the laws of the set below say
 abbrev pub Keeping : {S : Type 0} → (S → ℕ → ℕ → Bool) → (S → ℕ → ℕ → S → Type 0) → Type 0

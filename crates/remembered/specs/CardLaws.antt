@@ -1,12 +1,12 @@
 -- Laws of the card set.
-use Rattle.std.specs.Prelude.{◌≡◌, ℕ, ◌+◌, ◌*◌, ◌/◌, ◌%◌, ◌<◌, Bool, true, false, not, ◌&&◌, ◌||◌, List, ◌∷◌, replicate, ◌==◌, nat_lt, refl}
+use Rattle.std.specs.Prelude.{◌≡◌, ℕ, ◌+◌, ◌*◌, ◌/◌, ◌%◌, ◌<◌, Bool, true, false, cond, not, ◌&&◌, ◌||◌, List, ◌∷◌, replicate, ◌==◌, nat_lt, refl}
 use Rattle.std.proofs.Common.{sym, ap, subst, ◌∙◌, ⊎_elim, arith}
 use Rattle.std.proofs.lemmas.Bool.{cases_Bool, eq-eqb, ne_eqb, eqb-true, and_from, and_left, and_right, and_parts, lt-ltb, ltb-true, or_left, or_right, or_cases}
 use Rattle.remembered.specs.declared.Pair.{Pair}
 use Rattle.remembered.specs.Bits.{bit_in, bit, Cleared}
 use Rattle.remembered.specs.Laws.{in_range}
 use Rattle.remembered.specs.Meaning.{note, forget, Lawful}
-use Rattle.remembered.specs.Pairs.{pair, is_pair, within, without, unless}
+use Rattle.remembered.specs.Pairs.{pair, is_pair, within, without}
 use Rattle.remembered.specs.Cards.{card_in, card_note, card_run, card_has, marked, CardNoted, CardForgot, CardTold}
 use Rattle.remembered.specs.PairLists.{swap_and, and_none, within-without, bool_ext, pair_parts, pair_from}
 use Rattle.remembered.specs.Words.{or_none, bit-zero, zeros, cleared_bits}
@@ -32,7 +32,7 @@ hit_parts c a d b e =
 pub card_step : (c a : ℕ) (cs : List Pair) (d b : ℕ) → card_in (card_note c a cs) d b ≡ (card_in cs d b || hits c a d b)
 card_step c a cs d b = go (in_range c a) (card_in cs c a) refl refl
   where
-    go : (i m : Bool) → in_range c a ≡ i → card_in cs c a ≡ m → (in_range d b && within (unless (not (i && not m)) (pair c (a / 16)) cs) d (b / 16)) ≡ ((in_range d b && within cs d (b / 16)) || (i && (d == c && b / 16 == a / 16)))
+    go : (i m : Bool) → in_range c a ≡ i → card_in cs c a ≡ m → (in_range d b && within (cond (i && not m) (pair c (a / 16) ∷ cs) cs) d (b / 16)) ≡ ((in_range d b && within cs d (b / 16)) || (i && (d == c && b / 16 == a / 16)))
     go false m e f = sym (or_none _)
     go true true e f =
         bool_ext (in_range d b && within cs d (b / 16)) ((in_range d b && within cs d (b / 16)) || (d == c && b / 16 == a / 16)) (or_left _ _)

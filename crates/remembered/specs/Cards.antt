@@ -1,10 +1,10 @@
 -- What the card set does.
-use Rattle.std.specs.Prelude.{◌≡◌, ℕ, ◌*◌, ◌/◌, Bool, false, not, ◌&&◌, ◌||◌, List, [], ◌∷◌, ◌==◌}
+use Rattle.std.specs.Prelude.{◌≡◌, ℕ, ◌*◌, ◌/◌, Bool, false, if◌then◌else◌, not, ◌&&◌, ◌||◌, List, [], ◌∷◌, ◌==◌}
 use Rattle.remembered.specs.declared.Pair.{Pair}
 use Rattle.remembered.specs.Bits.{bit_in}
 use Rattle.remembered.specs.Laws.{in_range, new_in}
 use Rattle.remembered.specs.Meaning.{note, forget, Row, Meaning}
-use Rattle.remembered.specs.Pairs.{pair, within, without, unless}
+use Rattle.remembered.specs.Pairs.{pair, within, without}
 
 -- each address in a marked card is paired; a card is listed by its car and its number
 abbrev pub card_in : List Pair → ℕ → ℕ → Bool
@@ -12,7 +12,7 @@ card_in cs c a = in_range c a && within cs c (a / 16)
 
 -- a new pair marks its address's card
 abbrev pub card_note : ℕ → ℕ → List Pair → List Pair
-card_note c a cs = unless (not (new_in (card_in cs) c a)) (pair c (a / 16)) cs
+card_note c a cs = if new_in (card_in cs) c a then (pair c (a / 16) ∷ cs) else cs
 
 -- the marked cards after what the set was told
 abbrev pub card_run : Row → List Pair

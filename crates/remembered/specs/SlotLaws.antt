@@ -1,12 +1,14 @@
 -- Laws of the slot set.
 use Rattle.std.specs.Prelude.{◌≡◌, ℕ, zero, suc, ◌+◌, ◌*◌, ◌/◌, ◌%◌, ◌<◌, ◌≤◌, Bool, true, false, cond, not, ◌&&◌, ◌||◌, ltb, List, [], ◌∷◌, length, get_or, replicate, ◌==◌, ◌≢◌, nat_le, nat_lt, slice_index, slice_index_or, slice_set, refl}
 use Rattle.std.proofs.Common.{sym, ap, subst, ◌∙◌, ⊎_elim, arith}
+use Rattle.std.proofs.lemmas.Grind.{common_steps}
+use Rattle.std.proofs.lemmas.List.Sums.{sum_by-cons}
 use Rattle.std.proofs.lemmas.List.{get_or-set_same, get_or-set_other}
 use Rattle.std.proofs.lemmas.Bool.{cases_eq, cases_Bool, eq-eqb, ne_eqb, eqb-true, and_from, and_left, and_right, and_parts, ltb-true, le-ltb, ltb-false, or_left, or_right, or_cases, or_from, or_parts, both_ways, not-true, not-false, and_cases, cond-true, cond-false}
 use Rattle.remembered.specs.Bits.{bit_in, bit, Marked, Cleared}
 use Rattle.remembered.specs.Laws.{in_range, new_in}
 use Rattle.remembered.specs.Meaning.{Lawful}
-use Rattle.remembered.specs.Pairs.{pair, is_pair, within}
+use Rattle.remembered.specs.Pairs.{pair, is_pair, within, number_of}
 use Rattle.remembered.specs.Slots.{Slots, slot_in, slot_add, slot_note, slot_forget, slot_run, slot_has, kept, slot_pairs, kept_of, places, SlotNoted, SlotForgot, SlotStands}
 use Rattle.remembered.specs.CardLaws.{range_from, range_parts}
 use Rattle.remembered.specs.Counts.{count_same, count_none, count_more, total_more, total_less, total_part, total_none}
@@ -179,6 +181,10 @@ stay ws os u vs ps v σ e f g s = subst (λ x. SlotStands x ps v σ) (sym e) (su
 pub slot_tells : (ws : List ℕ) (os : List Bool) (u c a : ℕ) (vs : List ℕ) (ps : List Bool) (v : ℕ) (σ : Slots) → SlotNoted ws os u c a vs ps v → SlotStands ws os u σ → SlotStands vs ps v (slot_note c a σ)
 slot_tells ws os u c a vs ps v σ n s = go (new_in (slot_in σ) c a) (nat_lt (length σ.kept) 2048) (ap (λ x. in_range c a && not x) (slot_agrees ws os u σ s c a)) (ap (λ x. ltb x 2048) s.used_is)
   where
+    number : (d : ℕ) → kept_of vs c ≡ kept_of ws c + 1 → ((d ≢ c) → kept_of vs d ≡ kept_of ws d) → kept_of ws d ≡ number_of d σ.kept → kept_of vs d ≡ cond (c == d) 1 0 + number_of d σ.kept
+    number d one same is =
+        ⊎_elim (λ (x : d ≡ c). grind (arith, common_steps, x, ap (kept_of vs) x, ap (kept_of ws) x)) (λ (ne : d ≢ c). grind (arith, common_steps, same ne)) (cases_eq d c)
+
     go : (m r : Bool) → new_in (slot_pairs ws os) c a ≡ m → nat_lt u 2048 ≡ r → SlotStands vs ps v (slot_add m r c a σ)
     go false r e f = stay ws os u vs ps v σ (n.same_words e) (n.same_over e) (n.same_used e) s
     go true true e f =
@@ -189,11 +195,7 @@ slot_tells ws os u c a vs ps v σ n s = go (new_in (slot_in σ) c a) (nat_lt (le
           kept_is = λ d b. h d b ∙ ap (λ x. x || (d == c && b == a)) (s.kept_is d b) ∙ added (in_range d b) (within σ.kept d b) (d == c && b == a) (c == d && a == b) (λ t. let p = and_parts (d == c) (b == a) t in let x : d ≡ c = eqb-true d c p.0 in let y : b ≡ a = eqb-true b a p.1 in range_from d b (omega (arith, q.0)) (omega (arith, q.1))) (ap (λ x. x && b == a) (eqb-sym d c) ∙ ap (λ x. (c == d) && x) (eqb-sym b a));
           over_is = λ d i. ap (λ x. get_or x d false) (n.keeps_over e l) ∙ s.over_is d i;
           used_is = omega (arith, n.keeps_used e l, s.used_is);
-          number_is = λ d.
-              ⊎_elim
-              (λ (x : d ≡ c). let one : ◌≡◌ {A = ℕ} (cond (c == d) 1 0) (1) = cond-true (c == d) 1 0 (eq-eqb c d (sym x)) in omega (arith, one, ap (kept_of vs) x, ap (kept_of ws) x, kept_more ws vs c a q.1 q.2 h, s.number_is d))
-              (λ (ne : d ≡ c → ⊥). let none : ◌≡◌ {A = ℕ} (cond (c == d) 1 0) (0) = cond-false (c == d) 1 0 (ne_eqb c d (λ x. ne (sym x))) in omega (arith, none, kept_same ws vs c a h d ne, s.number_is d))
-              (cases_eq d c);
+          number_is = λ d. number d (kept_more ws vs c a q.1 q.2 h) (kept_same ws vs c a h d) (s.number_is d) ∙ sym (sum_by-cons _ (pair c a) σ.kept);
         }
     go true false e f =
         let g : 2048 ≤ u = ltb-false u 2048 f in

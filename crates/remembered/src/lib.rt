@@ -12,8 +12,8 @@ pub mod card;
 pub mod slot;
 pub mod tally;
 
-// A car, and the address of a slot.
-#[derive(Clone, Copy)]
+/// A car, and the address of a slot.
+#[derive(Clone, Copy, Debug, Default, PartialEq, Eq)]
 pub struct Pair {
     pub car: u32,
     pub address: u32,
