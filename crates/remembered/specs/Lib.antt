@@ -1,5 +1,7 @@
 pub mod Meaning
 pub mod Bits
+pub mod BitRow
+pub mod BitRowLaws
 pub mod Laws
 pub mod Pairs
 pub mod Cards

@@ -6,6 +6,7 @@ ghost use Rattle.remembered.specs.Laws.{Keeps, KeepsOthers, Least};
 ghost use Rattle.remembered.specs.Meaning.{Told, Row, Meaning, Lawful};
 ghost use Rattle.remembered.specs.Meaning.Told.{note as noting, forget as forgetting};
 
+mod bit_row;
 mod bits;
 pub mod buffered;
 pub mod card;
