@@ -14,6 +14,10 @@ pub and_none : (b : Bool) → (b && false) ≡ false
 and_none true = refl
 and_none false = refl
 
+pub or_none : (b : Bool) → (b || false) ≡ b
+or_none true = refl
+or_none false = refl
+
 pub swap_and : (x y z : Bool) → (x && (y && z)) ≡ (y && (x && z))
 swap_and true y z = refl
 swap_and false y z = sym (and_none y)

@@ -2,7 +2,7 @@
 #![tactic(auto)]
 
 ghost use Rattle.std.specs.Prelude.{◌≡◌, ℕ, ◌<◌, Bool, true, false, [], ◌∷◌};
-ghost use Rattle.remembered.specs.Laws.{Keeps, KeepsOthers, Least};
+ghost use Rattle.remembered.specs.Laws.{in_range, Keeps, KeepsOthers, Least};
 ghost use Rattle.remembered.specs.Meaning.{Told, Row, Meaning, Lawful};
 ghost use Rattle.remembered.specs.Meaning.Told.{note as noting, forget as forgetting};
 
@@ -18,6 +18,19 @@ pub mod tally;
 pub struct Pair {
     pub car: u32,
     pub address: u32,
+}
+
+/// How many cars there are.
+pub const CARS: usize = 64;
+
+/// How many addresses there are.
+pub const ADDRESSES: u32 = 8192;
+
+// Whether a car and an address can be paired.
+fn is_in_range(car: u32, address: u32) -> bool
+    ensures { result ≡ in_range car address }
+{
+    (car as usize) < CARS && address < ADDRESSES
 }
 
 // A set of pairs of a car below 64 and an address below 8,192. Code over any set is right by what the set
