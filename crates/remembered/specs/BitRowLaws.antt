@@ -74,6 +74,9 @@ none_more ws from i before here k h l =
 
 -- the first that a word has is the row's
 pub next_row : (ws : List ℕ) (from i x : ℕ) → ((k : ℕ) → from ≤ k → k < 64 * i → bit_in ws k ≡ false) → Least (bit (slice_index ws i)) (from - 64 * i) (Some x) → x < 64 → Least (bit_in ws) from (Some (64 * i + x))
-next_row ws from i x before found lt =
-    (omega (arith, found.0), word_bit ws i x (64 * i + x) refl lt ∙ found.1, λ k h l.
-    ⊎_elim (λ s. before k h s) (λ (ge : 64 * i ≤ k). word_bit ws i (k - 64 * i) k (omega arith) (omega arith) ∙ found.2 (k - 64 * i) (omega arith) (omega arith)) (cases_lt k (64 * i)))
+next_row ws from i x before found lt = (
+  omega (arith, found.0),
+  word_bit ws i x (64 * i + x) refl lt ∙ found.1,
+  λ k h l.
+      ⊎_elim (λ s. before k h s) (λ (ge : 64 * i ≤ k). word_bit ws i (k - 64 * i) k (omega arith) (omega arith) ∙ found.2 (k - 64 * i) (omega arith) (omega arith)) (cases_lt k (64 * i)),
+)

@@ -11,7 +11,7 @@ use Rattle.remembered.specs.Pairs.{pair, is_pair, within, without}
 use Rattle.remembered.specs.Buffers.{Buffer, buffer_in, sent, buffer_add, buffer_run, buffered, Ranged, with_held, Sends, BufferNoted, BufferForgot, BufferTold}
 use Rattle.remembered.specs.CardLaws.{range_from, range_parts}
 use Rattle.remembered.specs.PairLists.{within_push, within-without, pair_parts, pair_from}
-use Rattle.remembered.specs.Words.{or_none}
+use Rattle.remembered.specs.PairLists.{or_none}
 
 -- held pairs in range
 pub ranged_none : Ranged []

@@ -1,15 +1,15 @@
 pub mod Meaning
-pub mod Bits
 pub mod BitRow
 pub mod BitRowLaws
 pub mod Laws
 pub mod Pairs
 pub mod Cards
 pub mod Slots
+pub mod SlotCars
+pub mod SlotCarLaws
 pub mod Buffers
 pub mod BufferLaws
 pub mod CardLaws
 pub mod PairLists
-pub mod Words
 pub mod SlotLaws
 pub mod Counts

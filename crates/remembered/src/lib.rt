@@ -7,7 +7,6 @@ ghost use Rattle.remembered.specs.Meaning.{Told, Row, Meaning, Lawful};
 ghost use Rattle.remembered.specs.Meaning.Told.{note as noting, forget as forgetting};
 
 mod bit_row;
-mod bits;
 pub mod buffered;
 pub mod card;
 pub mod slot;
