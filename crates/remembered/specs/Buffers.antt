@@ -1,5 +1,5 @@
 -- What the buffered set does, over any remembered set.
-use Rattle.std.specs.Prelude.{◌≡◌, ℕ, ◌<◌, ◌≤◌, Bool, true, false, ◌||◌, List, [], ◌∷◌, ◌++◌, length, nat_lt}
+use Rattle.std.specs.Prelude.{◌≡◌, ℕ, ◌<◌, ◌≤◌, Bool, true, false, if◌then◌else◌, ◌||◌, List, [], ◌∷◌, ◌++◌, length, nat_lt}
 use Rattle.remembered.specs.declared.Pair.{Pair}
 use Rattle.remembered.specs.Laws.{new_in}
 use Rattle.remembered.specs.Meaning.{note, forget, Row, Meaning}
@@ -19,15 +19,13 @@ abbrev pub sent : List Pair → Row → Row
 sent [] r = r
 sent (p ∷ ps) r = sent ps (note p.car p.address ∷ r)
 
--- a new pair is held; if there is no room, all held pairs are sent down first
-abbrev pub buffer_add : (new room : Bool) → ℕ → ℕ → Buffer → Buffer
-buffer_add false room c a β = β
-buffer_add true true c a β = record { below = β.below; held = β.held ++ (pair c a ∷ []) }
-buffer_add true false c a β = record { below = sent β.held β.below; held = pair c a ∷ [] }
-
--- there is room for 16 pairs
+-- a new pair is held; if there is no room for it among 16, all held pairs are sent down first; another alters nothing
 abbrev pub buffer_note : Meaning → ℕ → ℕ → Buffer → Buffer
-buffer_note m c a β = buffer_add (new_in (buffer_in m β) c a) (nat_lt (length β.held) 16) c a β
+buffer_note m c a β =
+    if new_in (buffer_in m β) c a then (
+    if nat_lt (length β.held) 16 then record { below = β.below; held = β.held ++ (pair c a ∷ []) }
+    else record { below = sent β.held β.below; held = pair c a ∷ [] }
+    ) else β
 
 -- the car is forgotten below, and its held pairs are dropped
 abbrev pub buffer_forget : ℕ → Buffer → Buffer

@@ -1,47 +1,44 @@
 -- Laws of the slot set.
-use Rattle.std.specs.Prelude.{◌≡◌, ℕ, zero, suc, ◌+◌, ◌*◌, ◌<◌, ◌≤◌, Bool, true, false, cond, not, ◌&&◌, ◌||◌, ltb, List, [], length, replicate, ◌==◌, ◌≢◌, nat_le, nat_lt, slice_index_or, slice_set, refl}
+use Rattle.std.specs.Prelude.{◌≡◌, ℕ, zero, suc, ◌+◌, ◌*◌, ◌<◌, ◌≤◌, true, false, cond, not, ◌&&◌, ◌||◌, List, [], ◌∷◌, length, replicate, ◌==◌, ◌≢◌, nat_lt, slice_index_or, slice_set, refl}
 use Rattle.std.proofs.Common.{sym, ap, subst, ◌∙◌, ⊎_elim, arith}
 use Rattle.std.proofs.lemmas.Grind.{common_steps}
 use Rattle.std.proofs.lemmas.List.Folds.{sum_by-replicate}
 use Rattle.std.proofs.lemmas.List.Sums.{sum_by-cons}
 use Rattle.std.proofs.lemmas.List.{get_or_default, get_or-set_same, get_or-set_other}
-use Rattle.std.proofs.lemmas.Bool.{cases_eq, cases_Bool, eq-eqb, ne_eqb, eqb-true, and_from, and_left, and_right, and_parts, ltb-true, le-ltb, ltb-false, or_left, or_right, or_cases, or_from, or_parts, both_ways, not-true, not-false, and_cases, cond-true, cond-false}
+use Rattle.std.proofs.lemmas.Bool.{cases_eq, eq-eqb, ne_eqb, and_right, and_parts, ltb-true, ltb-false, or_left, or_from, cond-true, cond-false, cond_both}
 use Rattle.remembered.specs.BitRow.{bit_in, Marked}
 use Rattle.remembered.specs.BitRowLaws.{past_row}
 use Rattle.remembered.specs.Laws.{in_range, new_in}
 use Rattle.remembered.specs.Meaning.{Lawful}
-use Rattle.remembered.specs.Pairs.{pair, is_pair, within, number_of}
+use Rattle.remembered.specs.Pairs.{pair, number_of}
 use Rattle.remembered.specs.SlotCars.{Car, car_at, kept_count, places}
 use Rattle.remembered.specs.SlotCarLaws.{kept_count_more, kept_count_none, kept_count-le-places, places-set}
-use Rattle.remembered.specs.Slots.{Slots, slot_in, slot_add, slot_note, slot_forget, slot_run, slot_has, kept, is_over, slot_pairs, kept_of, KeepsPair, OverflowsCar, SlotNoted, SlotForgot, SlotStands}
+use Rattle.remembered.specs.Slots.{Slots, slot_in, slot_note, slot_forget, slot_run, slot_has, kept, is_over, slot_pairs, kept_of, KeepsPair, OverflowsCar, SlotNoted, SlotForgot, SlotStands}
 use Rattle.remembered.specs.CardLaws.{range_from, range_parts}
 use Rattle.remembered.specs.Counts.{count_same, count_none, count_more}
-use Rattle.remembered.specs.PairLists.{eqb-sym, swap_and, and_none, or_none, within-without, pair_from, number-without, length_without}
+use Rattle.remembered.specs.PairLists.{and_none, within-without, number-without, length_without}
 
 -- the counts when one pair more is kept
 pub kept_more : (old new : List Car) (c a : ℕ) → a < 8192 → kept old c a ≡ false → ((d b : ℕ) → kept new d b ≡ (kept old d b || (d == c && b == a))) → kept_of new c ≡ kept_of old c + 1
 unfolding kept_of
-kept_more old new c a ha was h =
-    count_more (kept old c) (kept new c) a 8192 ha was
-    (h c a ∙ or_right (kept old c a) _ (and_from (c == c) (a == a) (eq-eqb c c refl) (eq-eqb a a refl)))
-    (λ k ne. h c k ∙ ap (λ x. kept old c k || x) (and_right (c == c) (k == a) (ne_eqb k a ne)) ∙ or_none (kept old c k))
+kept_more old new c a ha was h = count_more (kept old c) (kept new c) a 8192 ha was (grind (arith, common_steps, h c a)) (λ k ne. grind (arith, common_steps, ne, h c k))
 
 pub kept_same : (old new : List Car) (c a : ℕ) → ((d b : ℕ) → kept new d b ≡ (kept old d b || (d == c && b == a))) → (d : ℕ) → (d ≢ c) → kept_of new d ≡ kept_of old d
 unfolding kept_of
-kept_same old new c a h d ne = count_same (kept new d) (kept old d) 8192 (λ k l. h d k ∙ ap (λ x. kept old d k || x) (and_left (d == c) (k == a) (ne_eqb d c ne)) ∙ or_none (kept old d k))
+kept_same old new c a h d ne = count_same (kept new d) (kept old d) 8192 (λ k l. grind (arith, common_steps, ne, h d k))
 
 -- the counts when a car is forgotten
 pub freed_none : (old new : List Car) (c : ℕ) → ((d b : ℕ) → kept new d b ≡ (not (d == c) && kept old d b)) → kept_of new c ≡ 0
 unfolding kept_of
-freed_none old new c h = count_none (kept new c) 8192 (λ k l. h c k ∙ and_left (not (c == c)) _ (ap not (eq-eqb c c refl)))
+freed_none old new c h = count_none (kept new c) 8192 (λ k l. grind (arith, common_steps, h c k))
 
 pub freed_same : (old new : List Car) (c : ℕ) → ((d b : ℕ) → kept new d b ≡ (not (d == c) && kept old d b)) → (d : ℕ) → (d ≢ c) → kept_of new d ≡ kept_of old d
 unfolding kept_of
-freed_same old new c h d ne = count_same (kept new d) (kept old d) 8192 (λ k l. h d k ∙ ap (λ x. not x && kept old d k) (ne_eqb d c ne))
+freed_same old new c h d ne = count_same (kept new d) (kept old d) 8192 (λ k l. grind (arith, common_steps, ne, h d k))
 
 pub kept-outside : (old : List Car) (c : ℕ) → 64 ≤ c → kept_of old c ≡ 0
 unfolding kept_of
-kept-outside old c h = count_none (kept old c) 8192 (λ k l. and_left (in_range c k) _ (and_left (nat_lt c 64) _ (le-ltb c 64 h)))
+kept-outside old c h = count_none (kept old c) 8192 (λ k l. grind (arith, common_steps))
 
 -- the counts when no pair of a car is changed
 pub unchanged : (old new : List Car) (c : ℕ) → ((a : ℕ) → kept new c a ≡ kept old c a) → kept_of new c ≡ kept_of old c
@@ -55,91 +52,59 @@ kept_of-row cars c h = count_same (kept cars c) (bit_in (car_at cars c).kept) 81
 
 -- a new pair is in range and not kept
 pub new_parts : (old : List Car) (c a : ℕ) → new_in (slot_pairs old) c a ≡ true → (c < 64) × (a < 8192) × (kept old c a ≡ false)
-new_parts old c a e =
-    let p = and_parts (in_range c a) _ e in
-    let q = range_parts c a p.0 in
-    let n : slot_pairs old c a ≡ false = not-true (slot_pairs old c a) p.1 in
-    (q.0, q.1, ⊎_elim (λ o. absurd (both_ways (in_range c a) o p.0)) (λ o. and_right (in_range c a) _ (or_parts (is_over old c) _ o).1) (and_cases (in_range c a) _ n))
-
--- the pairs of overflown cars, and the pairs kept
-pub pairs_split : (old : List Car) (c a : ℕ) → slot_pairs old c a ≡ ((in_range c a && is_over old c) || kept old c a)
-pairs_split old c a = split (in_range c a) (is_over old c) (bit_in (car_at old c).kept a)
-  where
-    split : (i o b : Bool) → (i && (o || b)) ≡ ((i && o) || (i && b))
-    split true o b = refl
-    split false o b = refl
+new_parts old c a e = let q = range_parts c a (and_parts (in_range c a) _ e).0 in (q.0, q.1, grind (arith, common_steps))
 
 -- the pairs that the set has after a forget
 pub freed_pairs : (old : List Car) (c : ℕ) (new : List Car) → ((d b : ℕ) → kept new d b ≡ (not (d == c) && kept old d b)) → ((d : ℕ) → is_over new d ≡ (not (d == c) && is_over old d)) → (d b : ℕ) → slot_pairs new d b ≡ (not (d == c) && slot_pairs old d b)
-freed_pairs old c new h o d b =
-    pairs_split new d b
-    ∙ ap (λ x. (in_range d b && x) || kept new d b) (o d)
-    ∙ ap (λ x. (in_range d b && (not (d == c) && is_over old d)) || x) (h d b)
-    ∙ factor (in_range d b) (not (d == c)) (is_over old d) (kept old d b)
-    ∙ ap (λ x. not (d == c) && x) (sym (pairs_split old d b))
-  where
-    factor : (i n o k : Bool) → ((i && (n && o)) || (n && k)) ≡ (n && ((i && o) || k))
-    factor i true o k = refl
-    factor true false o k = refl
-    factor false false o k = refl
+freed_pairs old c new h o d b = grind (arith, common_steps, h d b, o d)
 
 pub slot_keeps : (old : List Car) (c a : ℕ) (new : List Car) → SlotNoted old c a new → (d b : ℕ) → slot_pairs old d b ≡ true → slot_pairs new d b ≡ true
 slot_keeps old c a new n d b e = n.pairs d b ∙ or_left (slot_pairs old d b) _ e
 
 pub slot_gains : (old : List Car) (c a : ℕ) (new : List Car) → SlotNoted old c a new → c < 64 → a < 8192 → slot_pairs new c a ≡ true
-slot_gains old c a new n hc ha =
-    n.pairs c a
-    ∙ ⊎_elim (λ t. or_left (slot_pairs old c a) _ t)
-    (λ f. or_right (slot_pairs old c a) _ (and_from (new_in (slot_pairs old) c a) _ (and_from (in_range c a) _ (range_from c a hc ha) (ap not f)) (and_from (in_range c a) _ (range_from c a hc ha) (and_from (c == c) _ (eq-eqb c c refl) (or_right (nat_le 2048 (places old)) (a == a) (eq-eqb a a refl))))))
-    (cases_Bool (slot_pairs old c a))
+slot_gains old c a new n hc ha = grind (arith, common_steps, n.pairs c a)
 
 pub slot_others : (old : List Car) (c : ℕ) (new : List Car) → SlotForgot old c new → (d b : ℕ) → (d ≢ c) → slot_pairs old d b ≡ true → slot_pairs new d b ≡ true
-slot_others old c new n d b ne e = n.others d b ∙ ap (λ x. not x && slot_pairs old d b) (ne_eqb d c ne) ∙ e
+slot_others old c new n d b ne e = grind (arith, common_steps, n.others d b)
 
 -- what stands for a state has the pairs of the state
 pub slot_agrees : (old : List Car) (σ : Slots) → SlotStands old σ → (c a : ℕ) → slot_pairs old c a ≡ slot_in σ c a
-slot_agrees old σ s c a =
-    ⊎_elim
-    (λ (i : in_range c a ≡ true).
-    let q = range_parts c a i in
-    let o : is_over old c ≡ σ.over c = s.over_is c q.0 in
-    let k : kept old c a ≡ (in_range c a && within σ.kept c a) = s.kept_is c a in
-    pairs_split old c a ∙ ap (λ x. (in_range c a && x) || kept old c a) o ∙ ap (λ x. (in_range c a && σ.over c) || x) k ∙ join (in_range c a) (σ.over c) (within σ.kept c a))
-    (λ (n : in_range c a ≡ false). and_left (in_range c a) _ n ∙ sym (and_left (in_range c a) _ n))
-    (cases_Bool (in_range c a))
-  where
-    join : (i o b : Bool) → ((i && o) || (i && b)) ≡ (i && (o || b))
-    join true o b = refl
-    join false o b = refl
+slot_agrees old σ s c a = grind (arith, common_steps, s.kept_is c a, s.over_is c)
 
-added : (i w x y : Bool) → (x ≡ true → i ≡ true) → x ≡ y → ((i && w) || x) ≡ (i && (y || w))
-added true true x y h e = sym (or_right y true refl)
-added true false x y h e = e ∙ sym (or_none y)
-added false w true y h e = sym (h refl)
-added false w false y h e = refl
+-- a note has one of three outcomes
+note_cases : (P : Slots → Type 0) (c a : ℕ) (σ : Slots) → (new_in (slot_in σ) c a ≡ false → P σ)
+    → (new_in (slot_in σ) c a ≡ true → length σ.kept < 2048 → P (record { kept = pair c a ∷ σ.kept; over = σ.over }))
+    → (new_in (slot_in σ) c a ≡ true → 2048 ≤ length σ.kept → P (record { kept = σ.kept; over = λ d. σ.over d || d == c })) → P (slot_note c a σ)
+note_cases P c a σ same kept over =
+    cond_both (new_in (slot_in σ) c a) _ _ P
+    (λ e. cond_both (nat_lt (length σ.kept) 2048) _ _ P (λ l. kept e (ltb-true _ _ l)) (λ g. over e (ltb-false _ _ g)))
+    same
 
 -- a note leads from what stands for a state to what stands for the next one
 pub slot_tells : (old : List Car) (c a : ℕ) (new : List Car) (σ : Slots) → SlotNoted old c a new → SlotStands old σ → SlotStands new (slot_note c a σ)
-slot_tells old c a new σ n s = go (new_in (slot_in σ) c a) (nat_lt (length σ.kept) 2048) (ap (λ x. in_range c a && not x) (slot_agrees old σ s c a)) (ap (λ x. ltb x 2048) s.used_is)
+slot_tells old c a new σ n s = note_cases (SlotStands new) c a σ (λ e. subst (λ x. SlotStands x σ) (sym (n.same (agree ∙ e))) s) (λ e l. one (agree ∙ e) (omega (arith, s.used_is))) (λ e g. full (agree ∙ e) (omega (arith, s.used_is)))
   where
+    agree : new_in (slot_pairs old) c a ≡ new_in (slot_in σ) c a
+    agree = ap (λ x. in_range c a && not x) (slot_agrees old σ s c a)
+
     number : (d : ℕ) → kept_of new c ≡ kept_of old c + 1 → ((d ≢ c) → kept_of new d ≡ kept_of old d) → kept_of old d ≡ number_of d σ.kept → kept_of new d ≡ cond (c == d) 1 0 + number_of d σ.kept
     number d one same is =
         ⊎_elim (λ (x : d ≡ c). grind (arith, common_steps, x, ap (kept_of new) x, ap (kept_of old) x)) (λ (ne : d ≢ c). grind (arith, common_steps, same ne)) (cases_eq d c)
 
-    go : (m r : Bool) → new_in (slot_pairs old) c a ≡ m → nat_lt (places old) 2048 ≡ r → SlotStands new (slot_add m r c a σ)
-    go false r e f = subst (λ x. SlotStands x σ) (sym (n.same e)) s
-    go true true e f =
-        let l : places old < 2048 = ltb-true (places old) 2048 f in
+    one : new_in (slot_pairs old) c a ≡ true → places old < 2048 → SlotStands new (record { kept = pair c a ∷ σ.kept; over = σ.over })
+    one e l =
         let q = new_parts old c a e in
         let k = n.keeps e l in
         record {
-          kept_is = λ d b. k.kept_more d b ∙ ap (λ x. x || (d == c && b == a)) (s.kept_is d b) ∙ added (in_range d b) (within σ.kept d b) (d == c && b == a) (c == d && a == b) (λ t. let p = and_parts (d == c) (b == a) t in let x : d ≡ c = eqb-true d c p.0 in let y : b ≡ a = eqb-true b a p.1 in range_from d b (omega (arith, q.0)) (omega (arith, q.1))) (ap (λ x. x && b == a) (eqb-sym d c) ∙ ap (λ x. (c == d) && x) (eqb-sym b a));
+          kept_is = λ d b. grind (arith, common_steps, k.kept_more d b, s.kept_is d b, q.0, q.1);
           over_is = λ d i. k.over_same d ∙ s.over_is d i;
           used_is = omega (arith, k.used_more, s.used_is);
           number_is = λ d. number d (kept_more old new c a q.1 q.2 k.kept_more) (kept_same old new c a k.kept_more d) (s.number_is d) ∙ sym (sum_by-cons _ (pair c a) σ.kept);
         }
-    go true false e f =
-        let k = n.overflows e (ltb-false (places old) 2048 f) in
+
+    full : new_in (slot_pairs old) c a ≡ true → 2048 ≤ places old → SlotStands new (record { kept = σ.kept; over = λ d. σ.over d || d == c })
+    full e g =
+        let k = n.overflows e g in
         record {
           kept_is = λ d b. k.kept_same d b ∙ s.kept_is d b;
           over_is = λ d i. k.over_more d ∙ ap (λ x. x || d == c) (s.over_is d i);
@@ -150,7 +115,7 @@ slot_tells old c a new σ n s = go (new_in (slot_in σ) c a) (nat_lt (length σ.
 -- and so does a forget
 pub slot_forgets : (old : List Car) (c : ℕ) (new : List Car) (σ : Slots) → SlotForgot old c new → SlotStands old σ → SlotStands new (slot_forget c σ)
 slot_forgets old c new σ n s = record {
-  kept_is = λ d b. n.others_kept d b ∙ ap (λ x. not (d == c) && x) (s.kept_is d b) ∙ swap_and (not (d == c)) (in_range d b) (within σ.kept d b) ∙ ap (λ x. in_range d b && x) (sym (within-without c σ.kept d b));
+  kept_is = λ d b. grind (arith, common_steps, n.others_kept d b, s.kept_is d b, within-without c σ.kept d b);
   over_is = λ d i. n.others_over d ∙ ap (λ x. not (d == c) && x) (s.over_is d i);
   used_is = omega (arith, n.frees, s.used_is, s.number_is c, length_without c σ.kept);
   number_is = λ d.
@@ -160,32 +125,13 @@ slot_forgets old c new σ n s = record {
       (cases_eq d c);
 }
 
-add_keeps : (m r : Bool) (c a : ℕ) (σ : Slots) (d b : ℕ) → slot_in σ d b ≡ true → slot_in (slot_add m r c a σ) d b ≡ true
-add_keeps false r c a σ d b e = e
-add_keeps true true c a σ d b e =
-    let p = and_parts (in_range d b) _ e in
-    and_from (in_range d b) _ p.0 (⊎_elim (λ x. or_left (σ.over d) _ x) (λ x. or_right (σ.over d) _ (or_right (is_pair (pair c a) d b) _ x)) (or_cases (σ.over d) _ p.1))
-add_keeps true false c a σ d b e =
-    let p = and_parts (in_range d b) _ e in
-    and_from (in_range d b) _ p.0 (⊎_elim (λ x. or_left (σ.over d || d == c) _ (or_left (σ.over d) _ x)) (λ x. or_right (σ.over d || d == c) _ x) (or_cases (σ.over d) _ p.1))
-
-add_gains : (m r : Bool) (c a : ℕ) (σ : Slots) → c < 64 → a < 8192 → new_in (slot_in σ) c a ≡ m → slot_in (slot_add m r c a σ) c a ≡ true
-add_gains false r c a σ hc ha e =
-    ⊎_elim (λ o. absurd (both_ways (in_range c a) o (range_from c a hc ha))) (λ o. not-false (slot_in σ c a) o) (and_cases (in_range c a) (not (slot_in σ c a)) e)
-add_gains true true c a σ hc ha e = and_from (in_range c a) _ (range_from c a hc ha) (or_right (σ.over c) _ (or_left (is_pair (pair c a) c a) _ (pair_from (pair c a) c a refl refl)))
-add_gains true false c a σ hc ha e = and_from (in_range c a) _ (range_from c a hc ha) (or_left (σ.over c || c == c) _ (or_right (σ.over c) (c == c) (eq-eqb c c refl)))
-
 pub slot_lawful : Lawful slot_has
 slot_lawful = record {
   starts = λ c a. and_none (in_range c a);
   bounded = λ r c a e. range_parts c a (and_parts (in_range c a) _ e).0;
-  keeps = λ r d b c a e. add_keeps (new_in (slot_in (slot_run r)) d b) (nat_lt (length (slot_run r).kept) 2048) d b (slot_run r) c a e;
-  gains = λ r c a hc ha. add_gains (new_in (slot_in (slot_run r)) c a) (nat_lt (length (slot_run r).kept) 2048) c a (slot_run r) hc ha refl;
-  keeps_others = λ r d c a ne e.
-      let σ = slot_run r in
-      let p = and_parts (in_range c a) _ e in
-      let t : not (c == d) ≡ true = ap not (ne_eqb c d ne) in
-      and_from (in_range c a) _ p.0 (⊎_elim (λ x. or_left (not (c == d) && σ.over c) _ (and_from (not (c == d)) _ t x)) (λ x. or_right (not (c == d) && σ.over c) _ (within-without d σ.kept c a ∙ and_from (not (c == d)) _ t x)) (or_cases (σ.over c) _ p.1));
+  keeps = λ r d b c a e. note_cases (λ τ. slot_in τ c a ≡ true) d b (slot_run r) (λ _. e) (λ _ l. grind (arith, common_steps)) (λ _ g. grind (arith, common_steps));
+  gains = λ r c a hc ha. note_cases (λ τ. slot_in τ c a ≡ true) c a (slot_run r) (λ o. grind (arith, common_steps)) (λ o l. grind (arith, common_steps)) (λ o g. grind (arith, common_steps));
+  keeps_others = λ r d c a ne e. let w = within-without d (slot_run r).kept c a in grind (arith, common_steps, w);
 }
 
 -- a car's row and flag when one car is another

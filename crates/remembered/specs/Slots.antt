@@ -1,5 +1,5 @@
 -- What the slot set does.
-use Rattle.std.specs.Prelude.{◌≡◌, ℕ, ◌+◌, ◌-◌, ◌<◌, ◌≤◌, Bool, true, false, not, ◌&&◌, ◌||◌, List, [], ◌∷◌, length, ◌==◌, nat_le, nat_lt}
+use Rattle.std.specs.Prelude.{◌≡◌, ℕ, ◌+◌, ◌-◌, ◌<◌, ◌≤◌, Bool, true, false, if◌then◌else◌, not, ◌&&◌, ◌||◌, List, [], ◌∷◌, length, ◌==◌, nat_le, nat_lt}
 use Rattle.remembered.specs.declared.Pair.{Pair}
 use Rattle.remembered.specs.BitRow.{bit_in}
 use Rattle.remembered.specs.Laws.{in_range, new_in}
@@ -16,15 +16,13 @@ pub record Slots : Type 0 where
 abbrev pub slot_in : Slots → ℕ → ℕ → Bool
 slot_in σ c a = in_range c a && (σ.over c || within σ.kept c a)
 
--- a new pair is kept if there is room, else its car overflows; another alters nothing
-abbrev pub slot_add : (new room : Bool) → ℕ → ℕ → Slots → Slots
-slot_add false room c a σ = σ
-slot_add true true c a σ = record { kept = pair c a ∷ σ.kept; over = σ.over }
-slot_add true false c a σ = record { kept = σ.kept; over = λ d. σ.over d || (d == c) }
-
--- there is room for 2,048 pairs
+-- a new pair is kept if there is room for it among 2,048, else its car overflows; another alters nothing
 abbrev pub slot_note : ℕ → ℕ → Slots → Slots
-slot_note c a σ = slot_add (new_in (slot_in σ) c a) (nat_lt (length σ.kept) 2048) c a σ
+slot_note c a σ =
+    if new_in (slot_in σ) c a then (
+    if nat_lt (length σ.kept) 2048 then record { kept = pair c a ∷ σ.kept; over = σ.over }
+    else record { kept = σ.kept; over = λ d. σ.over d || d == c }
+    ) else σ
 
 -- the car's places are free again, and it is overflown no more
 abbrev pub slot_forget : ℕ → Slots → Slots
