@@ -8,7 +8,7 @@ use std::marker::Model;
 
 /// A row of `W` words, the first of which has bits 0 to 63. Clauses see the words.
 #[derive(Clone, Copy)]
-pub struct BitRow<const W: usize> {
+pub(crate) struct BitRow<const W: usize> {
     words: [u64; W],
 }
 
@@ -39,14 +39,14 @@ fn next_in_word(word: u64, from: usize) -> Option<usize>
 
 impl<const W: usize> BitRow<W> {
     /// A row with no bit set.
-    pub fn none() -> BitRow<W>
+    pub(crate) fn none() -> BitRow<W>
         ensures { (k : ℕ) → bit_in result k ≡ false }
     {
         BitRow { words: [0; W] }
     }
 
     /// Whether a bit is set.
-    pub fn has(&self, k: usize) -> bool
+    pub(crate) fn has(&self, k: usize) -> bool
         requires { k < 64 * W }
         ensures { result ≡ bit_in self.now k }
     {
@@ -54,7 +54,7 @@ impl<const W: usize> BitRow<W> {
     }
 
     /// Sets a bit.
-    pub fn mark(&mut self, k: usize)
+    pub(crate) fn mark(&mut self, k: usize)
         requires { k < 64 * W }
         ensures { Marked self.old k self.new }
     {
@@ -62,7 +62,7 @@ impl<const W: usize> BitRow<W> {
     }
 
     /// The lowest bit that is set, at or above `from`.
-    pub fn next(&self, from: usize) -> Option<usize>
+    pub(crate) fn next(&self, from: usize) -> Option<usize>
         requires { W ≤ 8192 }
         ensures least { Least (bit_in self.now) from result }
         ensures within { IfSome result (λ k. k < 64 * W) }

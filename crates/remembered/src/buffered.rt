@@ -36,10 +36,12 @@ fn nearer(best: Option<u32>, pair: Pair, car: u32, from: u32) -> Option<u32>
 }
 
 impl<S> Buffered<S> {
+    ghost use Rattle.remembered.specs.Buffered.{set_below, held_pairs};
+
     /// An empty buffer above a set.
     pub fn over(below: S) -> Buffered<S>
-        ensures below { result.below ≡ below }
-        ensures none { result.held.items ≡ [] }
+        ensures below { set_below result ≡ below }
+        ensures none { held_pairs result ≡ [] }
     {
         Buffered {
             below,
@@ -49,7 +51,7 @@ impl<S> Buffered<S> {
 
     /// How many pairs are held, of 16.
     pub fn held_count(&self) -> u32
-        ensures value { result ≡ length self.now.held.items }
+        ensures value { result ≡ length (held_pairs self.now) }
         ensures fits { result ≤ 16 }
     {
         self.held.len() as u32

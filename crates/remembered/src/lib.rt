@@ -1,4 +1,5 @@
-// Remembered sets: which addresses may hold slots that hold objects of which car.
+//! Remembered sets: which addresses may hold slots that hold objects of which car.
+
 #![tactic(auto)]
 
 ghost use Rattle.std.specs.Prelude.{◌≡◌, ℕ, ◌<◌, Bool, true, false, [], ◌∷◌};
@@ -32,8 +33,8 @@ fn is_in_range(car: u32, address: u32) -> bool
     (car as usize) < CARS && address < ADDRESSES
 }
 
-// A set of pairs of a car below 64 and an address below 8,192. Code over any set is right by what the set
-// has; a set may have more than it was told.
+/// A set of pairs of a car below 64 and an address below 8,192. Code over any set is right by what the set
+/// has; a set may have more than it was told.
 pub trait RememberedSet: Sized {
     // whether the set has the pair of a car and an address
     ghost has: { Self → ℕ → ℕ → Bool };
@@ -48,20 +49,20 @@ pub trait RememberedSet: Sized {
 
     ghost told: { Self → Row → Type 0 };
 
-    // A set with no pair.
+    /// A set with no pair.
     fn empty() -> Self
         ensures none { (c a : ℕ) → has result c a ≡ false }
         ensures starts { told result [] };
 
-    // Adds a pair, perhaps more; a pair out of range is never there.
+    /// Adds a pair, perhaps more; a pair out of range is never there.
     fn note(&mut self, car: u32, address: u32)
         ensures { noted self.old car address self.new };
 
-    // The least address, at or above `from`, that is paired with the car.
+    /// The least address, at or above `from`, that is paired with the car.
     fn next(&self, car: u32, from: u32) -> Option<u32>
         ensures { Least (has self.now car) from result };
 
-    // Drops pairs of a car, and of no other.
+    /// Drops pairs of a car, and of no other.
     fn forget(&mut self, car: u32)
         ensures { forgot self.old car self.new };
 
