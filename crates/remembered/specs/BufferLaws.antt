@@ -97,14 +97,14 @@ buffer_keeps has N keeping gaining s hs c a t ks near n d b h =
     (λ e.
     ⊎_elim
     (λ l.
-    subst (λ x. with_held (has x) ks d b ≡ true) (sym (n.holds_below e l))
-    (subst (λ x. with_held (has s) x d b ≡ true) (sym (n.holds_one e l))
+    subst (λ x. with_held (has x) ks d b ≡ true) (sym ((n.holds e l).0))
+    (subst (λ x. with_held (has s) x d b ≡ true) (sym ((n.holds e l).1))
     (⊎_elim (λ x. or_left (has s d b) _ x) (λ x. or_right (has s d b) _ (within_push hs (pair c a) d b ∙ or_left (within hs d b) _ x)) (or_cases (has s d b) (within hs d b) h))))
     (λ g.
     or_left (has t d b) _
-    (⊎_elim (λ x. sends_keeps has N keeping hs s t (n.sends_below e g) d b x) (λ x. sends_gains has N keeping gaining hs near s t (n.sends_below e g) d b x) (or_cases (has s d b) (within hs d b) h)))
+    (⊎_elim (λ x. sends_keeps has N keeping hs s t ((n.sends e g).0) d b x) (λ x. sends_gains has N keeping gaining hs near s t ((n.sends e g).0) d b x) (or_cases (has s d b) (within hs d b) h)))
     (cases_lt (length hs) 16))
-    (λ e. subst (λ x. with_held (has x) ks d b ≡ true) (sym (n.same_below e)) (subst (λ x. with_held (has s) x d b ≡ true) (sym (n.same_held e)) h))
+    (λ e. subst (λ x. with_held (has x) ks d b ≡ true) (sym ((n.same e).0)) (subst (λ x. with_held (has s) x d b ≡ true) (sym ((n.same e).1)) h))
     (cases_Bool (new_in (with_held (has s) hs) c a))
 
 pub buffer_gains : {S : Type 0} (has : S → ℕ → ℕ → Bool) (N : S → ℕ → ℕ → S → Type 0) (s : S) (hs : List Pair) (c a : ℕ) (t : S) (ks : List Pair) → BufferNoted has N s hs c a t ks → c < 64 → a < 8192 → with_held (has t) ks c a ≡ true
@@ -112,10 +112,10 @@ buffer_gains has N s hs c a t ks n hc ha =
     ⊎_elim
     (λ e.
     or_right (has t c a) _
-    (⊎_elim (λ l. ap (λ x. within x c a) (n.holds_one e l) ∙ within_push hs (pair c a) c a ∙ or_right (within hs c a) _ (pair_from (pair c a) c a refl refl)) (λ g. ap (λ x. within x c a) (n.sends_held e g) ∙ or_left (is_pair (pair c a) c a) _ (pair_from (pair c a) c a refl refl)) (cases_lt (length hs) 16)))
+    (⊎_elim (λ l. ap (λ x. within x c a) ((n.holds e l).1) ∙ within_push hs (pair c a) c a ∙ or_right (within hs c a) _ (pair_from (pair c a) c a refl refl)) (λ g. ap (λ x. within x c a) ((n.sends e g).1) ∙ or_left (is_pair (pair c a) c a) _ (pair_from (pair c a) c a refl refl)) (cases_lt (length hs) 16)))
     (λ e.
     let was : with_held (has s) hs c a ≡ true = ⊎_elim (λ o. absurd (both_ways (in_range c a) o (range_from c a hc ha))) (λ o. not-false (with_held (has s) hs c a) o) (and_cases (in_range c a) (not (with_held (has s) hs c a)) e) in
-    subst (λ x. with_held (has x) ks c a ≡ true) (sym (n.same_below e)) (subst (λ x. with_held (has s) x c a ≡ true) (sym (n.same_held e)) was))
+    subst (λ x. with_held (has x) ks c a ≡ true) (sym ((n.same e).0)) (subst (λ x. with_held (has s) x c a ≡ true) (sym ((n.same e).1)) was))
     (cases_Bool (new_in (with_held (has s) hs) c a))
 
 pub buffer_others : {S : Type 0} (has : S → ℕ → ℕ → Bool) (F : S → ℕ → S → Type 0) (s : S) (hs : List Pair) (c : ℕ) (t : S) (ks : List Pair) → (F s c t → KeepsOthers c (has s) (has t)) → BufferForgot F s hs c t ks → KeepsOthers c (with_held (has s) hs) (with_held (has t) ks)
@@ -145,9 +145,9 @@ buffer_tells has N m told agrees telling s hs c a t ks r n h =
     let agree : new_in (with_held (has s) hs) c a ≡ new_in (buffer_in m β) c a = ap (λ x. in_range c a && not x) (buffer_agrees has m told agrees s hs r h c a) in
     let size : length hs ≡ length (buffer_run m r).held = ap length h.held_is in
     let q =
-    note_cases (λ γ. told t γ.below × (ks ≡ γ.held)) m c a β (λ e. (subst (λ z. told z β.below) (sym (n.same_below (agree ∙ e))) h.told_below, n.same_held (agree ∙ e) ∙ h.held_is))
-    (λ e l. let few : length hs < 16 = omega arith in (subst (λ z. told z β.below) (sym (n.holds_below (agree ∙ e) few)) h.told_below, n.holds_one (agree ∙ e) few ∙ ap (λ z. z ++ (pair c a ∷ [])) h.held_is))
-    (λ e g. let full : 16 ≤ length hs = omega arith in (subst (λ z. told t (sent z β.below)) h.held_is (sends_tells N told telling hs s t β.below (n.sends_below (agree ∙ e) full) h.told_below), n.sends_held (agree ∙ e) full)) in
+    note_cases (λ γ. told t γ.below × (ks ≡ γ.held)) m c a β (λ e. (subst (λ z. told z β.below) (sym ((n.same (agree ∙ e)).0)) h.told_below, (n.same (agree ∙ e)).1 ∙ h.held_is))
+    (λ e l. let few : length hs < 16 = omega arith in (subst (λ z. told z β.below) (sym ((n.holds (agree ∙ e) few).0)) h.told_below, (n.holds (agree ∙ e) few).1 ∙ ap (λ z. z ++ (pair c a ∷ [])) h.held_is))
+    (λ e g. let full : 16 ≤ length hs = omega arith in (subst (λ z. told t (sent z β.below)) h.held_is (sends_tells N told telling hs s t β.below ((n.sends (agree ∙ e) full).0) h.told_below), (n.sends (agree ∙ e) full).1)) in
     record { told_below = q.0; held_is = q.1 }
 
 pub buffer_forgets : {S : Type 0} (F : S → ℕ → S → Type 0) (m : Meaning) (told : S → Row → Type 0) → ((s t : S) (c : ℕ) (r : Row) → F s c t → told s r → told t (forget c ∷ r)) → (s : S) (hs : List Pair) (c : ℕ) (t : S) (ks : List Pair) (r : Row) → BufferForgot F s hs c t ks → BufferTold m told s hs r → BufferTold m told t ks (forget c ∷ r)

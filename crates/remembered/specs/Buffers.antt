@@ -56,14 +56,10 @@ Sends {S = S} noted s (p ∷ ps) t = (u : S) × noted s p.car p.address u × Sen
 -- what a note does to the set below and to the pairs held
 pub record BufferNoted {S : Type 0} (has : S → ℕ → ℕ → Bool) (noted : S → ℕ → ℕ → S → Type 0) (s : S) (hs : List Pair) (c a : ℕ) (t : S) (ks : List Pair) : Type 0 where
   -- noting a pair that is not new alters nothing
-  pub same_below : new_in (with_held (has s) hs) c a ≡ false → t ≡ s
-  pub same_held : new_in (with_held (has s) hs) c a ≡ false → ks ≡ hs
-  -- a new pair is held where fewer than 16 are
-  pub holds_below : new_in (with_held (has s) hs) c a ≡ true → length hs < 16 → t ≡ s
-  pub holds_one : new_in (with_held (has s) hs) c a ≡ true → length hs < 16 → ks ≡ hs ++ (pair c a ∷ [])
-  -- else the 16 are sent down first
-  pub sends_below : new_in (with_held (has s) hs) c a ≡ true → 16 ≤ length hs → Sends noted s hs t
-  pub sends_held : new_in (with_held (has s) hs) c a ≡ true → 16 ≤ length hs → ks ≡ pair c a ∷ []
+  pub same : new_in (with_held (has s) hs) c a ≡ false → (t ≡ s) × (ks ≡ hs)
+  -- a new pair is held where fewer than 16 are, else the 16 are sent down first
+  pub holds : new_in (with_held (has s) hs) c a ≡ true → length hs < 16 → (t ≡ s) × (ks ≡ hs ++ (pair c a ∷ []))
+  pub sends : new_in (with_held (has s) hs) c a ≡ true → 16 ≤ length hs → Sends noted s hs t × (ks ≡ pair c a ∷ [])
 
 -- what a forget does: the car is forgotten below too, and its held pairs are dropped
 pub record BufferForgot {S : Type 0} (forgot : S → ℕ → S → Type 0) (s : S) (hs : List Pair) (c : ℕ) (t : S) (ks : List Pair) : Type 0 where

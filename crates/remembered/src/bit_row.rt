@@ -25,7 +25,7 @@ impl<const W: usize> Model for BitRow<W> {
 }
 
 // The lowest bit of a word that is set, at or above `from`.
-fn next_in_word(word: u64, from: usize) -> Option<usize>
+fn next_in_word(word: u64, from: u32) -> Option<u32>
     requires { from < 64 }
     ensures least { Least (bit word) from result }
     ensures within { IfSome result (λ k. k < 64) }
@@ -34,7 +34,7 @@ fn next_in_word(word: u64, from: usize) -> Option<usize>
     if rest == 0 {
         return None;
     }
-    Some(from + rest.trailing_zeros() as usize)
+    Some(from + rest.trailing_zeros())
 }
 
 impl<const W: usize> BitRow<W> {
@@ -46,30 +46,31 @@ impl<const W: usize> BitRow<W> {
     }
 
     /// Whether a bit is set.
-    pub(crate) fn has(&self, k: usize) -> bool
+    pub(crate) fn has(&self, k: u32) -> bool
         requires { k < 64 * W }
         ensures { result ≡ bit_in self.now k }
     {
-        (self.words[k / 64] >> (k % 64)) % 2 == 1
+        (self.words[k as usize / 64] >> (k % 64)) % 2 == 1
     }
 
     /// Sets a bit.
-    pub(crate) fn mark(&mut self, k: usize)
+    pub(crate) fn mark(&mut self, k: u32)
         requires { k < 64 * W }
         ensures { Marked self.old k self.new }
     {
-        self.words[k / 64] |= 1 << (k % 64);
+        self.words[k as usize / 64] |= 1 << (k % 64);
     }
 
     /// The lowest bit that is set, at or above `from`.
-    pub(crate) fn next(&self, from: usize) -> Option<usize>
+    pub(crate) fn next(&self, from: u32) -> Option<u32>
         requires { W ≤ 8192 }
         ensures least { Least (bit_in self.now) from result }
         ensures within { IfSome result (λ k. k < 64 * W) }
     {
-        for i in from / 64..W {
-            if let Some(k) = next_in_word(self.words[i], from.saturating_sub(64 * i)) {
-                return Some(64 * i + k);
+        for i in from as usize / 64..W {
+            let first = 64 * i as u32;
+            if let Some(k) = next_in_word(self.words[i], from.saturating_sub(first)) {
+                return Some(first + k);
             }
         }
         None

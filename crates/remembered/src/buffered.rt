@@ -7,7 +7,7 @@ ghost use Rattle.remembered.specs.Pairs.{pair, is_pair, without};
 ghost use Rattle.remembered.specs.Buffers.{buffered, Ranged, with_held, Sends, BufferNoted, BufferForgot, BufferTold};
 ghost use Rattle.remembered.specs.BufferLaws.{buffer_bounded, buffer_keeps, buffer_gains, buffer_others, buffered_lawful, buffer_agrees, buffer_tells, buffer_forgets};
 
-use crate::{Pair, RememberedSet};
+use crate::{Pair, RememberedSet, is_in_range};
 use arrayvec::ArrayVec;
 
 // How many pairs a buffer holds.
@@ -59,7 +59,9 @@ impl<S> Buffered<S> {
 
     // Holds a pair more.
     fn hold(&mut self, car: u32, address: u32)
-        requires { (array_vec_len self.old.held < 16) × ((car < 64) × (address < 8192)) }
+        requires room { array_vec_len self.old.held < 16 }
+        requires car { car < 64 }
+        requires address { address < 8192 }
         ensures below { self.new.below ≡ self.old.below }
         ensures held { self.new.held.items ≡ self.old.held.items ++ (pair car address ∷ []) }
     {
@@ -78,7 +80,7 @@ impl<S> Buffered<S> {
 impl<S: RememberedSet> Buffered<S> {
     // Sends all held pairs down, in their order.
     fn send_down(&mut self)
-        ensures below { Sends S.RememberedSet.noted self.old.below self.old.held.items self.new.below }
+        ensures below { Sends S.noted self.old.below self.old.held.items self.new.below }
         ensures none { self.new.held.items ≡ [] }
     {
         let below = &mut self.below;
@@ -92,7 +94,7 @@ impl<S: RememberedSet> Buffered<S> {
     fn make_room(&mut self)
         ensures room { array_vec_len self.new.held < 16 }
         ensures same { array_vec_len self.old.held < 16 → self.new ≡ self.old }
-        ensures below { 16 ≤ array_vec_len self.old.held → Sends S.RememberedSet.noted self.old.below self.old.held.items self.new.below }
+        ensures below { 16 ≤ array_vec_len self.old.held → Sends S.noted self.old.below self.old.held.items self.new.below }
         ensures none { 16 ≤ array_vec_len self.old.held → self.new.held.items ≡ [] }
     {
         if self.held.is_full() {
@@ -102,7 +104,7 @@ impl<S: RememberedSet> Buffered<S> {
 
     // The least address, at or above `from`, paired with the car below or held.
     fn nearest(&self, car: u32, from: u32) -> Option<u32>
-        ensures { Least (with_held (S.RememberedSet.has self.now.below) self.now.held.items car) from result }
+        ensures { Least (with_held (S.has self.now.below) self.now.held.items car) from result }
     {
         let mut best = self.below.next(car, from);
         for pair in self.held.as_slice() {
@@ -113,38 +115,38 @@ impl<S: RememberedSet> Buffered<S> {
 
     // Whether the pair could be in the set and is not.
     fn lacks(&self, car: u32, address: u32) -> bool
-        ensures { result ≡ new_in (with_held (S.RememberedSet.has self.now.below) self.now.held.items) car address }
+        ensures { result ≡ new_in (with_held (S.has self.now.below) self.now.held.items) car address }
     {
-        car < 64 && address < 8192 && self.nearest(car, address) != Some(address)
+        is_in_range(car, address) && self.nearest(car, address) != Some(address)
     }
 }
 
 impl<S: RememberedSet> RememberedSet for Buffered<S> {
-    ghost has = { λ s c a. with_held (S.RememberedSet.has s.below) s.held.items c a };
+    ghost has = { λ s c a. with_held (S.has s.below) s.held.items c a };
 
-    ghost noted = { λ s c a t. BufferNoted S.RememberedSet.has S.RememberedSet.noted s.below s.held.items c a t.below t.held.items };
+    ghost noted = { λ s c a t. BufferNoted S.has S.noted s.below s.held.items c a t.below t.held.items };
 
-    ghost forgot = { λ s c t. BufferForgot S.RememberedSet.forgot s.below s.held.items c t.below t.held.items };
+    ghost forgot = { λ s c t. BufferForgot S.forgot s.below s.held.items c t.below t.held.items };
 
-    ghost means = { buffered S.RememberedSet.means };
+    ghost means = { buffered S.means };
 
-    ghost told = { λ s r. BufferTold S.RememberedSet.means S.RememberedSet.told s.below s.held.items r };
+    ghost told = { λ s r. BufferTold S.means S.told s.below s.held.items r };
 
-    ghost bounded = { λ s. buffer_bounded S.RememberedSet.has s.below s.held.items s.near (S.RememberedSet.bounded s.below) };
+    ghost bounded = { λ s. buffer_bounded S.has s.below s.held.items s.near (S.bounded s.below) };
 
-    ghost keeps = { λ s t c a n. buffer_keeps S.RememberedSet.has S.RememberedSet.noted S.RememberedSet.keeps S.RememberedSet.gains s.below s.held.items c a t.below t.held.items s.near n };
+    ghost keeps = { λ s t c a n. buffer_keeps S.has S.noted S.keeps S.gains s.below s.held.items c a t.below t.held.items s.near n };
 
-    ghost gains = { λ s t c a n. buffer_gains S.RememberedSet.has S.RememberedSet.noted s.below s.held.items c a t.below t.held.items n };
+    ghost gains = { λ s t c a n. buffer_gains S.has S.noted s.below s.held.items c a t.below t.held.items n };
 
-    ghost others = { λ s t c n. buffer_others S.RememberedSet.has S.RememberedSet.forgot s.below s.held.items c t.below t.held.items (S.RememberedSet.others s.below t.below c) n };
+    ghost others = { λ s t c n. buffer_others S.has S.forgot s.below s.held.items c t.below t.held.items (S.others s.below t.below c) n };
 
-    ghost lawful = { buffered_lawful S.RememberedSet.means S.RememberedSet.lawful };
+    ghost lawful = { buffered_lawful S.means S.lawful };
 
-    ghost agrees = { λ s r h. buffer_agrees S.RememberedSet.has S.RememberedSet.means S.RememberedSet.told S.RememberedSet.agrees s.below s.held.items r h };
+    ghost agrees = { λ s r h. buffer_agrees S.has S.means S.told S.agrees s.below s.held.items r h };
 
-    ghost tells = { λ s t c a r n h. buffer_tells S.RememberedSet.has S.RememberedSet.noted S.RememberedSet.means S.RememberedSet.told S.RememberedSet.agrees S.RememberedSet.tells s.below s.held.items c a t.below t.held.items r n h };
+    ghost tells = { λ s t c a r n h. buffer_tells S.has S.noted S.means S.told S.agrees S.tells s.below s.held.items c a t.below t.held.items r n h };
 
-    ghost forgets = { λ s t c r n h. buffer_forgets S.RememberedSet.forgot S.RememberedSet.means S.RememberedSet.told S.RememberedSet.forgets s.below s.held.items c t.below t.held.items r n h };
+    ghost forgets = { λ s t c r n h. buffer_forgets S.forgot S.means S.told S.forgets s.below s.held.items c t.below t.held.items r n h };
 
     fn empty() -> Buffered<S> {
         Buffered::over(S::empty())

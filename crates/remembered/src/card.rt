@@ -26,7 +26,7 @@ impl CardSet {
     fn lacks(&self, car: u32, address: u32) -> bool
         ensures { result ≡ new_in (marked self.now.cars) car address }
     {
-        is_in_range(car, address) && !self.cars[car as usize].has((address / CARD) as usize)
+        is_in_range(car, address) && !self.cars[car as usize].has(address / CARD)
     }
 }
 
@@ -65,7 +65,7 @@ impl RememberedSet for CardSet {
 
     fn note(&mut self, car: u32, address: u32) {
         if self.lacks(car, address) {
-            self.cars[car as usize].mark((address / CARD) as usize);
+            self.cars[car as usize].mark(address / CARD);
         }
     }
 
@@ -73,8 +73,8 @@ impl RememberedSet for CardSet {
         if !is_in_range(car, from) {
             return None;
         }
-        let card = self.cars[car as usize].next((from / CARD) as usize);
-        card.map(|card| from.max(CARD * card as u32))
+        let card = self.cars[car as usize].next(from / CARD);
+        card.map(|card| from.max(CARD * card))
     }
 
     fn forget(&mut self, car: u32) {

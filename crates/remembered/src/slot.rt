@@ -68,7 +68,7 @@ impl CarPairs {
         requires { address < 8192 }
         ensures { result ≡ not (self.now.overflown || bit_in self.now.kept address) }
     {
-        !self.overflown && !self.kept.has(address as usize)
+        !self.overflown && !self.kept.has(address)
     }
 
     // Keeps an address.
@@ -78,7 +78,7 @@ impl CarPairs {
         ensures kept { Marked self.old.kept address self.new.kept }
         ensures over { self.new.overflown ≡ self.old.overflown }
     {
-        self.kept.mark(address as usize);
+        self.kept.mark(address);
         self.count += 1;
     }
 
@@ -109,7 +109,7 @@ impl CarPairs {
         if self.overflown {
             return Some(from);
         }
-        self.kept.next(from as usize).map(|address| address as u32)
+        self.kept.next(from)
     }
 }
 
