@@ -1,5 +1,5 @@
 -- What the buffered set does, over any remembered set.
-use Rattle.std.specs.Prelude.{◌≡◌, ℕ, ◌<◌, ◌≤◌, Bool, true, false, ◌||◌, List, [], ◌∷◌, ◌++◌, length, nat_lt}
+use Rattle.std.specs.Prelude.{◌≡◌, ℕ, ◌<◌, ◌≤◌, Bool, true, false, if◌then◌else◌, ◌||◌, List, [], ◌∷◌, ◌++◌, length, nat_lt}
 use Rattle.remembered.specs.declared.Pair.{Pair}
 use Rattle.remembered.specs.Laws.{new_in}
 use Rattle.remembered.specs.Meaning.{note, forget, Row, Meaning}
@@ -19,15 +19,13 @@ abbrev pub sent : List Pair → Row → Row
 sent [] r = r
 sent (p ∷ ps) r = sent ps (note p.car p.address ∷ r)
 
--- a new pair is held; if there is no room, all held pairs are sent down first
-abbrev pub buffer_add : (new room : Bool) → ℕ → ℕ → Buffer → Buffer
-buffer_add false room c a β = β
-buffer_add true true c a β = record { below = β.below; held = β.held ++ (pair c a ∷ []) }
-buffer_add true false c a β = record { below = sent β.held β.below; held = pair c a ∷ [] }
-
--- there is room for 16 pairs
+-- a new pair is held; if there is no room for it among 16, all held pairs are sent down first; another alters nothing
 abbrev pub buffer_note : Meaning → ℕ → ℕ → Buffer → Buffer
-buffer_note m c a β = buffer_add (new_in (buffer_in m β) c a) (nat_lt (length β.held) 16) c a β
+buffer_note m c a β =
+    if new_in (buffer_in m β) c a then (
+    if nat_lt (length β.held) 16 then record { below = β.below; held = β.held ++ (pair c a ∷ []) }
+    else record { below = sent β.held β.below; held = pair c a ∷ [] }
+    ) else β
 
 -- the car is forgotten below, and its held pairs are dropped
 abbrev pub buffer_forget : ℕ → Buffer → Buffer
@@ -58,14 +56,10 @@ Sends {S = S} noted s (p ∷ ps) t = (u : S) × noted s p.car p.address u × Sen
 -- what a note does to the set below and to the pairs held
 pub record BufferNoted {S : Type 0} (has : S → ℕ → ℕ → Bool) (noted : S → ℕ → ℕ → S → Type 0) (s : S) (hs : List Pair) (c a : ℕ) (t : S) (ks : List Pair) : Type 0 where
   -- noting a pair that is not new alters nothing
-  pub same_below : new_in (with_held (has s) hs) c a ≡ false → t ≡ s
-  pub same_held : new_in (with_held (has s) hs) c a ≡ false → ks ≡ hs
-  -- a new pair is held where fewer than 16 are
-  pub holds_below : new_in (with_held (has s) hs) c a ≡ true → length hs < 16 → t ≡ s
-  pub holds_one : new_in (with_held (has s) hs) c a ≡ true → length hs < 16 → ks ≡ hs ++ (pair c a ∷ [])
-  -- else the 16 are sent down first
-  pub sends_below : new_in (with_held (has s) hs) c a ≡ true → 16 ≤ length hs → Sends noted s hs t
-  pub sends_held : new_in (with_held (has s) hs) c a ≡ true → 16 ≤ length hs → ks ≡ pair c a ∷ []
+  pub same : new_in (with_held (has s) hs) c a ≡ false → (t ≡ s) × (ks ≡ hs)
+  -- a new pair is held where fewer than 16 are, else the 16 are sent down first
+  pub holds : new_in (with_held (has s) hs) c a ≡ true → length hs < 16 → (t ≡ s) × (ks ≡ hs ++ (pair c a ∷ []))
+  pub sends : new_in (with_held (has s) hs) c a ≡ true → 16 ≤ length hs → Sends noted s hs t × (ks ≡ pair c a ∷ [])
 
 -- what a forget does: the car is forgotten below too, and its held pairs are dropped
 pub record BufferForgot {S : Type 0} (forgot : S → ℕ → S → Type 0) (s : S) (hs : List Pair) (c : ℕ) (t : S) (ks : List Pair) : Type 0 where

@@ -1,15 +1,15 @@
 -- Laws of the card set.
-use Rattle.std.specs.Prelude.{◌≡◌, ℕ, ◌+◌, ◌*◌, ◌/◌, ◌%◌, ◌<◌, Bool, true, false, not, ◌&&◌, ◌||◌, List, ◌∷◌, replicate, ◌==◌, nat_lt, refl}
+use Rattle.std.specs.Prelude.{◌≡◌, ℕ, ◌/◌, ◌<◌, Bool, true, false, cond, not, ◌&&◌, ◌||◌, List, [], ◌∷◌, zero, suc, replicate, slice_index_or, ◌==◌, nat_lt, refl}
 use Rattle.std.proofs.Common.{sym, ap, subst, ◌∙◌, ⊎_elim, arith}
-use Rattle.std.proofs.lemmas.Bool.{cases_Bool, eq-eqb, ne_eqb, eqb-true, and_from, and_left, and_right, and_parts, lt-ltb, ltb-true, or_left, or_right, or_cases}
+use Rattle.std.proofs.lemmas.Bool.{eq-eqb, ne_eqb, eqb-true, and_from, and_right, and_parts, lt-ltb, ltb-true, or_left, or_right, or_cases}
 use Rattle.remembered.specs.declared.Pair.{Pair}
-use Rattle.remembered.specs.Bits.{bit_in, bit, Cleared}
+use Rattle.remembered.specs.BitRow.{bit_in}
 use Rattle.remembered.specs.Laws.{in_range}
 use Rattle.remembered.specs.Meaning.{note, forget, Lawful}
-use Rattle.remembered.specs.Pairs.{pair, is_pair, within, without, unless}
+use Rattle.remembered.specs.Pairs.{pair, is_pair, within, without}
 use Rattle.remembered.specs.Cards.{card_in, card_note, card_run, card_has, marked, CardNoted, CardForgot, CardTold}
-use Rattle.remembered.specs.PairLists.{swap_and, and_none, within-without, bool_ext, pair_parts, pair_from}
-use Rattle.remembered.specs.Words.{or_none, bit-zero, zeros, cleared_bits}
+use Rattle.remembered.specs.PairLists.{swap_and, and_none, or_none, within-without, bool_ext, pair_parts, pair_from}
+use Rattle.remembered.specs.BitRowLaws.{past_row}
 
 pub range_from : (c a : ℕ) → c < 64 → a < 8192 → in_range c a ≡ true
 range_from c a hc ha = and_from (nat_lt c 64) (nat_lt a 8192) (lt-ltb c 64 hc) (lt-ltb a 8192 ha)
@@ -32,7 +32,7 @@ hit_parts c a d b e =
 pub card_step : (c a : ℕ) (cs : List Pair) (d b : ℕ) → card_in (card_note c a cs) d b ≡ (card_in cs d b || hits c a d b)
 card_step c a cs d b = go (in_range c a) (card_in cs c a) refl refl
   where
-    go : (i m : Bool) → in_range c a ≡ i → card_in cs c a ≡ m → (in_range d b && within (unless (not (i && not m)) (pair c (a / 16)) cs) d (b / 16)) ≡ ((in_range d b && within cs d (b / 16)) || (i && (d == c && b / 16 == a / 16)))
+    go : (i m : Bool) → in_range c a ≡ i → card_in cs c a ≡ m → (in_range d b && within (cond (i && not m) (pair c (a / 16) ∷ cs) cs) d (b / 16)) ≡ ((in_range d b && within cs d (b / 16)) || (i && (d == c && b / 16 == a / 16)))
     go false m e f = sym (or_none _)
     go true true e f =
         bool_ext (in_range d b && within cs d (b / 16)) ((in_range d b && within cs d (b / 16)) || (d == c && b / 16 == a / 16)) (or_left _ _)
@@ -60,18 +60,16 @@ card_lawful = record {
   keeps_others = λ r d c a ne e. card_unstep d (card_run r) c a ∙ and_from (not (c == d)) (card_in (card_run r) c a) (ap not (ne_eqb c d ne)) e;
 }
 
-pub card_tells : (ws vs : List ℕ) (c a : ℕ) (r : List _) → CardNoted ws c a vs → CardTold ws r → CardTold vs (note c a ∷ r)
-card_tells ws vs c a r n t d b = n.pairs d b ∙ ap (λ x. x || hits c a d b) (t d b) ∙ sym (card_step c a (card_run r) d b)
+pub card_tells : (old new : List (List ℕ)) (c a : ℕ) (r : List _) → CardNoted old c a new → CardTold old r → CardTold new (note c a ∷ r)
+card_tells old new c a r n t d b = n.pairs d b ∙ ap (λ x. x || hits c a d b) (t d b) ∙ sym (card_step c a (card_run r) d b)
 
-pub card_forgets : (ws vs : List ℕ) (c : ℕ) (r : List _) → CardForgot ws c vs → CardTold ws r → CardTold vs (forget c ∷ r)
-card_forgets ws vs c r n t d b = n d b ∙ ap (λ x. not (d == c) && x) (t d b) ∙ sym (card_unstep c (card_run r) d b)
+pub card_forgets : (old new : List (List ℕ)) (c : ℕ) (r : List _) → CardForgot old c new → CardTold old r → CardTold new (forget c ∷ r)
+card_forgets old new c r n t d b = n d b ∙ ap (λ x. not (d == c) && x) (t d b) ∙ sym (card_unstep c (card_run r) d b)
 
-pub card_cleared : (ws vs : List ℕ) (c : ℕ) → Cleared ws vs (8 * c) 8 → CardForgot ws c vs
-card_cleared ws vs c h d b =
-    ⊎_elim
-    (λ i. let q = range_parts d b i in ap (λ x. in_range d b && x) (cleared_bits ws vs 8 c h d (b / 16) (omega arith)) ∙ swap_and (in_range d b) (not (d == c)) (bit_in ws (8 * d) (b / 16)))
-    (λ out. and_left (in_range d b) _ out ∙ sym (and_right (not (d == c)) _ (and_left (in_range d b) _ out)))
-    (cases_Bool (in_range d b))
-
-pub card_none : (c a : ℕ) → marked (replicate 512 0) c a ≡ false
-card_none c a = and_right (in_range c a) _ (ap (λ m. bit m (a / 16 % 64)) (zeros 512 (8 * c + a / 16 / 64)) ∙ bit-zero (a / 16 % 64))
+pub card_none : (row : List ℕ) → ((k : ℕ) → bit_in row k ≡ false) → (c a : ℕ) → marked (replicate 64 row) c a ≡ false
+card_none row none c a = and_right (in_range c a) _ (rows_none row none 64 c (a / 16))
+  where
+    rows_none : (row : List ℕ) → ((k : ℕ) → bit_in row k ≡ false) → (n c k : ℕ) → bit_in (slice_index_or (replicate n row) c []) k ≡ false
+    rows_none row none zero c k = past_row [] k (omega arith)
+    rows_none row none (suc n) zero k = none k
+    rows_none row none (suc n) (suc c) k = rows_none row none n c k

@@ -1,10 +1,10 @@
 -- What the card set does.
-use Rattle.std.specs.Prelude.{◌≡◌, ℕ, ◌*◌, ◌/◌, Bool, false, not, ◌&&◌, ◌||◌, List, [], ◌∷◌, ◌==◌}
+use Rattle.std.specs.Prelude.{◌≡◌, ℕ, ◌/◌, Bool, false, if◌then◌else◌, not, ◌&&◌, ◌||◌, List, [], ◌∷◌, ◌==◌, slice_index_or}
 use Rattle.remembered.specs.declared.Pair.{Pair}
-use Rattle.remembered.specs.Bits.{bit_in}
+use Rattle.remembered.specs.BitRow.{bit_in}
 use Rattle.remembered.specs.Laws.{in_range, new_in}
 use Rattle.remembered.specs.Meaning.{note, forget, Row, Meaning}
-use Rattle.remembered.specs.Pairs.{pair, within, without, unless}
+use Rattle.remembered.specs.Pairs.{pair, within, without}
 
 -- each address in a marked card is paired; a card is listed by its car and its number
 abbrev pub card_in : List Pair → ℕ → ℕ → Bool
@@ -12,7 +12,7 @@ card_in cs c a = in_range c a && within cs c (a / 16)
 
 -- a new pair marks its address's card
 abbrev pub card_note : ℕ → ℕ → List Pair → List Pair
-card_note c a cs = unless (not (new_in (card_in cs) c a)) (pair c (a / 16)) cs
+card_note c a cs = if new_in (card_in cs) c a then (pair c (a / 16) ∷ cs) else cs
 
 -- the marked cards after what the set was told
 abbrev pub card_run : Row → List Pair
@@ -23,19 +23,19 @@ card_run (forget c ∷ r) = without c (card_run r)
 abbrev pub card_has : Meaning
 card_has r = card_in (card_run r)
 
--- whether an address lies in a marked card, by the set's words: eight for each car
-abbrev pub marked : List ℕ → ℕ → ℕ → Bool
-marked ws c a = in_range c a && bit_in ws (8 * c) (a / 16)
+-- whether an address lies in a marked card, by the set's rows: one for each car, with a bit for each card
+abbrev pub marked : List (List ℕ) → ℕ → ℕ → Bool
+marked rows c a = in_range c a && bit_in (slice_index_or rows c []) (a / 16)
 
 -- after a note the card of the address is marked besides, and where the pair was not new nothing altered
-pub record CardNoted (ws : List ℕ) (c a : ℕ) (vs : List ℕ) : Type 0 where
-  pub pairs : (d b : ℕ) → marked vs d b ≡ (marked ws d b || (in_range c a && (d == c && b / 16 == a / 16)))
-  pub same : new_in (marked ws) c a ≡ false → vs ≡ ws
+pub record CardNoted (old : List (List ℕ)) (c a : ℕ) (new : List (List ℕ)) : Type 0 where
+  pub pairs : (d b : ℕ) → marked new d b ≡ (marked old d b || (in_range c a && (d == c && b / 16 == a / 16)))
+  pub same : new_in (marked old) c a ≡ false → new ≡ old
 
 -- after a forget no card of that car is marked, the others as they were
-abbrev pub CardForgot : List ℕ → ℕ → List ℕ → Type 0
-CardForgot ws c vs = (d b : ℕ) → marked vs d b ≡ (not (d == c) && marked ws d b)
+abbrev pub CardForgot : List (List ℕ) → ℕ → List (List ℕ) → Type 0
+CardForgot old c new = (d b : ℕ) → marked new d b ≡ (not (d == c) && marked old d b)
 
 -- a set that was told a row has the pairs which the row gives
-abbrev pub CardTold : List ℕ → Row → Type 0
-CardTold ws r = (c a : ℕ) → marked ws c a ≡ card_has r c a
+abbrev pub CardTold : List (List ℕ) → Row → Type 0
+CardTold rows r = (c a : ℕ) → marked rows c a ≡ card_has r c a

@@ -1,9 +1,8 @@
--- Laws of counts and totals.
+-- Laws of counts.
 use Rattle.std.specs.Prelude.{◌≡◌, ℕ, zero, suc, ◌+◌, ◌<◌, ◌≤◌, Bool, true, false, cond, ◌≢◌, refl}
 use Rattle.std.proofs.Common.{ap, ◌∙◌, ⊎_elim, arith, add-one}
 use Rattle.std.proofs.lemmas.Bool.{cases_eq, cases_lt}
 use Rattle.remembered.specs.Meaning.{count}
-use Rattle.remembered.specs.Slots.{total}
 
 pub count_same : (P Q : ℕ → Bool) (n : ℕ) → ((k : ℕ) → k < n → P k ≡ Q k) → count P n ≡ count Q n
 count_same P Q zero h = refl
@@ -34,33 +33,6 @@ count_more P Q x (suc n) h px qx same =
     let here : ◌≡◌ {A = ℕ} (cond (Q n) 1 0) (cond (P n) 1 0) = ap (λ b. cond b 1 0) (same n ne) in
     omega (arith, here, count_more P Q x n (omega (arith, ne)) px qx same))
     (cases_eq n x)
-
-pub total_same : (f g : ℕ → ℕ) (n : ℕ) → ((k : ℕ) → k < n → g k ≡ f k) → total g n ≡ total f n
-total_same f g zero h = refl
-total_same f g (suc n) h = omega (arith, h n (omega arith), total_same f g n (λ k l. h k (omega arith)))
-
--- two totals differ as their one differing part does
-pub total_change : (f g : ℕ → ℕ) (x n : ℕ) → x < n → ((k : ℕ) → (k ≢ x) → g k ≡ f k) → total g n + f x ≡ total f n + g x
-total_change f g x zero h same = absurd (omega arith)
-total_change f g x (suc n) h same =
-    ⊎_elim
-    (λ (e : n ≡ x). omega (arith, ap f e, ap g e, total_same f g n (λ k l. same k (omega arith))))
-    (λ (ne : n ≡ x → ⊥). omega (arith, same n ne, total_change f g x n (omega (arith, ne)) same))
-    (cases_eq n x)
-
-pub total_more : (f g : ℕ → ℕ) (x n : ℕ) → x < n → g x ≡ f x + 1 → ((k : ℕ) → (k ≢ x) → g k ≡ f k) → total g n ≡ total f n + 1
-total_more f g x n h one same = omega (arith, total_change f g x n h same)
-
-pub total_less : (f g : ℕ → ℕ) (x n : ℕ) → x < n → g x ≡ 0 → ((k : ℕ) → (k ≢ x) → g k ≡ f k) → total g n + f x ≡ total f n
-total_less f g x n h none same = omega (arith, total_change f g x n h same)
-
-pub total_part : (f : ℕ → ℕ) (x n : ℕ) → x < n → f x ≤ total f n
-total_part f x zero h = absurd (omega arith)
-total_part f x (suc n) h = ⊎_elim (λ (e : n ≡ x). omega (arith, ap f e)) (λ (ne : n ≡ x → ⊥). omega (arith, total_part f x n (omega (arith, ne)))) (cases_eq n x)
-
-pub total_none : (f : ℕ → ℕ) (n : ℕ) → ((k : ℕ) → f k ≡ 0) → total f n ≡ 0
-total_none f zero h = refl
-total_none f (suc n) h = omega (arith, h n, total_none f n h)
 
 -- no number from one place up to another is in P
 pub count_upto : (P : ℕ → Bool) (from n : ℕ) → from ≤ n → ((k : ℕ) → from ≤ k → k < n → P k ≡ false) → count P n ≡ count P from

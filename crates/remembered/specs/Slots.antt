@@ -1,10 +1,11 @@
 -- What the slot set does.
-use Rattle.std.specs.Prelude.{◌≡◌, ℕ, zero, suc, ◌+◌, ◌-◌, ◌*◌, ◌<◌, ◌≤◌, Bool, true, false, not, ◌&&◌, ◌||◌, List, [], ◌∷◌, length, ◌==◌, nat_le, nat_lt, slice_index_or}
+use Rattle.std.specs.Prelude.{◌≡◌, ℕ, ◌+◌, ◌-◌, ◌<◌, ◌≤◌, Bool, true, false, if◌then◌else◌, not, ◌&&◌, ◌||◌, List, [], ◌∷◌, length, ◌==◌, nat_le, nat_lt}
 use Rattle.remembered.specs.declared.Pair.{Pair}
-use Rattle.remembered.specs.Bits.{bit_in}
+use Rattle.remembered.specs.BitRow.{bit_in}
 use Rattle.remembered.specs.Laws.{in_range, new_in}
 use Rattle.remembered.specs.Meaning.{note, forget, Row, Meaning, count}
 use Rattle.remembered.specs.Pairs.{pair, within, without, number_of}
+use Rattle.remembered.specs.SlotCars.{Car, car_at, places}
 
 -- the pairs kept, and which cars are overflown
 pub record Slots : Type 0 where
@@ -15,15 +16,13 @@ pub record Slots : Type 0 where
 abbrev pub slot_in : Slots → ℕ → ℕ → Bool
 slot_in σ c a = in_range c a && (σ.over c || within σ.kept c a)
 
--- a new pair is kept if there is room, else its car overflows; another alters nothing
-abbrev pub slot_add : (new room : Bool) → ℕ → ℕ → Slots → Slots
-slot_add false room c a σ = σ
-slot_add true true c a σ = record { kept = pair c a ∷ σ.kept; over = σ.over }
-slot_add true false c a σ = record { kept = σ.kept; over = λ d. σ.over d || (d == c) }
-
--- there is room for 2,048 pairs
+-- a new pair is kept if there is room for it among 2,048, else its car overflows; another alters nothing
 abbrev pub slot_note : ℕ → ℕ → Slots → Slots
-slot_note c a σ = slot_add (new_in (slot_in σ) c a) (nat_lt (length σ.kept) 2048) c a σ
+slot_note c a σ =
+    if new_in (slot_in σ) c a then (
+    if nat_lt (length σ.kept) 2048 then record { kept = pair c a ∷ σ.kept; over = σ.over }
+    else record { kept = σ.kept; over = λ d. σ.over d || d == c }
+    ) else σ
 
 -- the car's places are free again, and it is overflown no more
 abbrev pub slot_forget : ℕ → Slots → Slots
@@ -38,54 +37,54 @@ slot_run (forget c ∷ r) = slot_forget c (slot_run r)
 abbrev pub slot_has : Meaning
 slot_has r = slot_in (slot_run r)
 
--- the pairs kept, by the set's words: 128 for each car, a bit for each address
-abbrev pub kept : List ℕ → ℕ → ℕ → Bool
-kept ws c a = in_range c a && bit_in ws (128 * c) a
+-- the pairs kept, by the set's rows
+abbrev pub kept : List Car → ℕ → ℕ → Bool
+kept cars c a = in_range c a && bit_in (car_at cars c).kept a
+
+-- whether a car is overflown
+abbrev pub is_over : List Car → ℕ → Bool
+is_over cars c = nat_lt c 64 && (car_at cars c).overflown
 
 -- the pairs that the set has
-abbrev pub slot_pairs : List ℕ → List Bool → ℕ → ℕ → Bool
-slot_pairs ws os c a = in_range c a && (slice_index_or os c false || bit_in ws (128 * c) a)
+abbrev pub slot_pairs : List Car → ℕ → ℕ → Bool
+slot_pairs cars c a = in_range c a && (is_over cars c || bit_in (car_at cars c).kept a)
 
 -- how many pairs of a car are kept
-unfoldable pub kept_of : List ℕ → ℕ → ℕ
-kept_of ws c = count (kept ws c) 8192
+unfoldable pub kept_of : List Car → ℕ → ℕ
+kept_of cars c = count (kept cars c) 8192
 
--- f 0 + .. + f (n - 1)
-abbrev pub total : (ℕ → ℕ) → ℕ → ℕ
-total f zero = 0
-total f (suc n) = f n + total f n
+-- one pair more is kept, in one place more
+pub record KeepsPair (old : List Car) (c a : ℕ) (new : List Car) : Type 0 where
+  pub kept_more : (d b : ℕ) → kept new d b ≡ (kept old d b || (d == c && b == a))
+  pub over_same : (d : ℕ) → is_over new d ≡ is_over old d
+  pub used_more : places new ≡ places old + 1
 
--- how many places are in use: the pairs kept of all cars
-unfoldable pub places : List ℕ → ℕ
-places ws = total (kept_of ws) 64
+-- one car more is overflown
+pub record OverflowsCar (old : List Car) (c : ℕ) (new : List Car) : Type 0 where
+  pub kept_same : (d b : ℕ) → kept new d b ≡ kept old d b
+  pub over_more : (d : ℕ) → is_over new d ≡ (is_over old d || d == c)
+  pub used_same : places new ≡ places old
 
--- what a note does to words, overflown cars and the number of places in use
-pub record SlotNoted (ws : List ℕ) (os : List Bool) (u c a : ℕ) (ws' : List ℕ) (os' : List Bool) (u' : ℕ) : Type 0 where
+-- what a note does to the cars
+pub record SlotNoted (old : List Car) (c a : ℕ) (new : List Car) : Type 0 where
   -- the pairs that the set has then
-  pub pairs : (d b : ℕ) → slot_pairs ws' os' d b ≡ (slot_pairs ws os d b || (new_in (slot_pairs ws os) c a && (in_range d b && (d == c && (nat_le 2048 u || b == a)))))
+  pub pairs : (d b : ℕ) → slot_pairs new d b ≡ (slot_pairs old d b || (new_in (slot_pairs old) c a && (in_range d b && (d == c && (nat_le 2048 (places old) || b == a)))))
   -- noting a pair that is not new alters nothing
-  pub same_words : new_in (slot_pairs ws os) c a ≡ false → ws' ≡ ws
-  pub same_over : new_in (slot_pairs ws os) c a ≡ false → os' ≡ os
-  pub same_used : new_in (slot_pairs ws os) c a ≡ false → u' ≡ u
-  -- a new pair is kept where fewer than 2,048 are
-  pub keeps_one : new_in (slot_pairs ws os) c a ≡ true → u < 2048 → (d b : ℕ) → kept ws' d b ≡ (kept ws d b || (d == c && b == a))
-  pub keeps_over : new_in (slot_pairs ws os) c a ≡ true → u < 2048 → os' ≡ os
-  pub keeps_used : new_in (slot_pairs ws os) c a ≡ true → u < 2048 → u' ≡ u + 1
-  -- else its car overflows
-  pub full_words : new_in (slot_pairs ws os) c a ≡ true → 2048 ≤ u → ws' ≡ ws
-  pub full_over : new_in (slot_pairs ws os) c a ≡ true → 2048 ≤ u → (d : ℕ) → slice_index_or os' d false ≡ (slice_index_or os d false || d == c)
-  pub full_used : new_in (slot_pairs ws os) c a ≡ true → 2048 ≤ u → u' ≡ u
+  pub same : new_in (slot_pairs old) c a ≡ false → new ≡ old
+  -- a new pair is kept where fewer than 2,048 are, else its car overflows
+  pub keeps : new_in (slot_pairs old) c a ≡ true → places old < 2048 → KeepsPair old c a new
+  pub overflows : new_in (slot_pairs old) c a ≡ true → 2048 ≤ places old → OverflowsCar old c new
 
 -- what a forget does: the car's places are free, and it is overflown no more
-pub record SlotForgot (ws : List ℕ) (os : List Bool) (u c : ℕ) (ws' : List ℕ) (os' : List Bool) (u' : ℕ) : Type 0 where
-  pub others : (d b : ℕ) → slot_pairs ws' os' d b ≡ (not (d == c) && slot_pairs ws os d b)
-  pub others_kept : (d b : ℕ) → kept ws' d b ≡ (not (d == c) && kept ws d b)
-  pub others_over : (d : ℕ) → slice_index_or os' d false ≡ (not (d == c) && slice_index_or os d false)
-  pub frees : u' ≡ u - kept_of ws c
+pub record SlotForgot (old : List Car) (c : ℕ) (new : List Car) : Type 0 where
+  pub others : (d b : ℕ) → slot_pairs new d b ≡ (not (d == c) && slot_pairs old d b)
+  pub others_kept : (d b : ℕ) → kept new d b ≡ (not (d == c) && kept old d b)
+  pub others_over : (d : ℕ) → is_over new d ≡ (not (d == c) && is_over old d)
+  pub frees : places new ≡ places old - kept_of old c
 
--- words, overflown cars and places in use stand for a state
-pub record SlotStands (ws : List ℕ) (os : List Bool) (u : ℕ) (σ : Slots) : Type 0 where
-  pub kept_is : (c a : ℕ) → kept ws c a ≡ (in_range c a && within σ.kept c a)
-  pub over_is : (c : ℕ) → c < 64 → slice_index_or os c false ≡ σ.over c
-  pub used_is : u ≡ length σ.kept
-  pub number_is : (c : ℕ) → kept_of ws c ≡ number_of c σ.kept
+-- the cars stand for a state
+pub record SlotStands (cars : List Car) (σ : Slots) : Type 0 where
+  pub kept_is : (c a : ℕ) → kept cars c a ≡ (in_range c a && within σ.kept c a)
+  pub over_is : (c : ℕ) → c < 64 → is_over cars c ≡ σ.over c
+  pub used_is : places cars ≡ length σ.kept
+  pub number_is : (c : ℕ) → kept_of cars c ≡ number_of c σ.kept

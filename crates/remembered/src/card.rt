@@ -1,54 +1,45 @@
-// The card set: for each car, which of the 512 cards of 16 words are marked.
-ghost use Rattle.std.specs.Prelude.{◌≡◌, ◌*◌, ◌/◌, ◌<◌, length, replicate};
+//! The card set: for each car, which of the 512 cards of 16 words are marked.
+
+ghost use Rattle.std.specs.Prelude.{◌≡◌, ◌/◌, ◌<◌};
 ghost use Rattle.remembered.specs.Cards.{card_has, marked, CardNoted, CardForgot, CardTold};
 ghost use Rattle.remembered.specs.Laws.{new_in};
 ghost use Rattle.remembered.specs.CardLaws.{card_lawful, card_tells, card_forgets};
 ghost use Rattle.std.proofs.Common.{rules};
 
-use crate::RememberedSet;
-use crate::bits::{bit_at, clear, mark, next_bit};
+use crate::bit_row::BitRow;
+use crate::{CARS, RememberedSet, is_in_range};
 
-// Eight words for each car, a bit for each card.
+// How many addresses a card has.
+const CARD: u32 = 16;
+
+// How many words of 64 bits hold a bit for each card.
+const CARD_WORDS: usize = 8;
+
+/// A row for each car, with a bit for each card.
 #[derive(Drop)]
 pub struct CardSet {
-    cards: [u64; 512],
-    ghost full: { length cards ≡ 512 },
-}
-
-// No card of any car is marked.
-fn unmarked() -> [u64; 512]
-    ensures { result ≡ replicate 512 0 }
-{
-    [0; 512]
+    cars: [BitRow<CARD_WORDS>; CARS],
 }
 
 impl CardSet {
     // Whether the pair could be in the set and is not.
     fn lacks(&self, car: u32, address: u32) -> bool
-        ensures { result ≡ new_in (marked self.now.cards) car address }
+        ensures { result ≡ new_in (marked self.now.cars) car address }
     {
-        car < 64 && address < 8192 && !bit_at(&self.cards, 8 * car as usize, address as usize / 16)
-    }
-
-    // Unmarks all cards of a car.
-    fn unmark(&mut self, car: usize)
-        requires { car < 64 }
-        ensures { CardForgot self.old.cards car self.new.cards }
-    {
-        clear(&mut self.cards, 8 * car, 8);
+        is_in_range(car, address) && !self.cars[car as usize].has(address / CARD)
     }
 }
 
 impl RememberedSet for CardSet {
-    ghost has = { λ s c a. marked s.cards c a };
+    ghost has = { λ s c a. marked s.cars c a };
 
-    ghost noted = { λ s c a t. CardNoted s.cards c a t.cards };
+    ghost noted = { λ s c a t. CardNoted s.cars c a t.cars };
 
-    ghost forgot = { λ s c t. CardForgot s.cards c t.cards };
+    ghost forgot = { λ s c t. CardForgot s.cars c t.cars };
 
     ghost means = { card_has };
 
-    ghost told = { λ s r. CardTold s.cards r };
+    ghost told = { λ s r. CardTold s.cars r };
 
     ghost bounded = { Prim.search rules };
 
@@ -62,33 +53,33 @@ impl RememberedSet for CardSet {
 
     ghost agrees = { Prim.search rules };
 
-    ghost tells = { λ s t c a r n h. card_tells s.cards t.cards c a r n h };
+    ghost tells = { λ s t c a r n h. card_tells s.cars t.cars c a r n h };
 
-    ghost forgets = { λ s t c r n h. card_forgets s.cards t.cards c r n h };
+    ghost forgets = { λ s t c r n h. card_forgets s.cars t.cars c r n h };
 
     fn empty() -> CardSet {
-        CardSet { cards: unmarked() }
+        CardSet {
+            cars: [BitRow::none(); CARS],
+        }
     }
 
     fn note(&mut self, car: u32, address: u32) {
         if self.lacks(car, address) {
-            mark(&mut self.cards, 8 * car as usize, address as usize / 16);
+            self.cars[car as usize].mark(address / CARD);
         }
     }
 
     fn next(&self, car: u32, from: u32) -> Option<u32> {
-        if car >= 64 || from >= 8192 {
+        if !is_in_range(car, from) {
             return None;
         }
-        match next_bit(&self.cards, 8 * car as usize, 8, from as usize / 16) {
-            Some(card) => Some(from.max(16 * card as u32)),
-            None => None,
-        }
+        let card = self.cars[car as usize].next(from / CARD);
+        card.map(|card| from.max(CARD * card))
     }
 
     fn forget(&mut self, car: u32) {
-        if car < 64 {
-            self.unmark(car as usize);
+        if (car as usize) < CARS {
+            self.cars[car as usize] = BitRow::none();
         }
     }
 }

@@ -1,26 +1,40 @@
-// Remembered sets: which addresses may hold slots that hold objects of which car.
+//! Remembered sets: which addresses may hold slots that hold objects of which car.
+
 #![tactic(auto)]
 
 ghost use Rattle.std.specs.Prelude.{◌≡◌, ℕ, ◌<◌, Bool, true, false, [], ◌∷◌};
-ghost use Rattle.remembered.specs.Laws.{Keeps, KeepsOthers, Least};
+ghost use Rattle.remembered.specs.Laws.{in_range, Keeps, KeepsOthers, Least};
 ghost use Rattle.remembered.specs.Meaning.{Told, Row, Meaning, Lawful};
 ghost use Rattle.remembered.specs.Meaning.Told.{note as noting, forget as forgetting};
 
-mod bits;
+mod bit_row;
 pub mod buffered;
 pub mod card;
 pub mod slot;
 pub mod tally;
 
-// A car, and the address of a slot.
-#[derive(Clone, Copy)]
+/// A car, and the address of a slot.
+#[derive(Clone, Copy, Debug, Default, PartialEq, Eq)]
 pub struct Pair {
     pub car: u32,
     pub address: u32,
 }
 
-// A set of pairs of a car below 64 and an address below 8,192. Code over any set is right by what the set
-// has; a set may have more than it was told.
+/// How many cars there are.
+pub const CARS: usize = 64;
+
+/// How many addresses there are.
+pub const ADDRESSES: u32 = 8192;
+
+// Whether a car and an address can be paired.
+fn is_in_range(car: u32, address: u32) -> bool
+    ensures { result ≡ in_range car address }
+{
+    (car as usize) < CARS && address < ADDRESSES
+}
+
+/// A set of pairs of a car below 64 and an address below 8,192. Code over any set is right by what the set
+/// has; a set may have more than it was told.
 pub trait RememberedSet: Sized {
     // whether the set has the pair of a car and an address
     ghost has: { Self → ℕ → ℕ → Bool };
@@ -35,20 +49,20 @@ pub trait RememberedSet: Sized {
 
     ghost told: { Self → Row → Type 0 };
 
-    // A set with no pair.
+    /// A set with no pair.
     fn empty() -> Self
         ensures none { (c a : ℕ) → has result c a ≡ false }
         ensures starts { told result [] };
 
-    // Adds a pair, perhaps more; a pair out of range is never there.
+    /// Adds a pair, perhaps more; a pair out of range is never there.
     fn note(&mut self, car: u32, address: u32)
         ensures { noted self.old car address self.new };
 
-    // The least address, at or above `from`, that is paired with the car.
+    /// The least address, at or above `from`, that is paired with the car.
     fn next(&self, car: u32, from: u32) -> Option<u32>
         ensures { Least (has self.now car) from result };
 
-    // Drops pairs of a car, and of no other.
+    /// Drops pairs of a car, and of no other.
     fn forget(&mut self, car: u32)
         ensures { forgot self.old car self.new };
 

@@ -1,125 +1,216 @@
-// The slot set: up to 2,048 pairs, and the cars that overflowed when it was full.
-ghost use Rattle.std.specs.Prelude.{◌≡◌, ℕ, ◌+◌, ◌-◌, ◌*◌, ◌/◌, ◌<◌, ◌≤◌, true, false, not, ◌&&◌, ◌||◌, length, set, replicate, ◌==◌, nat_lt, slice_index, slice_index_or};
-ghost use Rattle.remembered.specs.Laws.{new_in};
-ghost use Rattle.remembered.specs.Slots.{slot_has, slot_run, slot_pairs, kept, kept_of, places, SlotNoted, SlotForgot, SlotStands};
+//! The slot set: up to 2,048 pairs, and the cars that overflowed when it was full.
+
+ghost use Rattle.std.specs.Prelude.{◌≡◌, ℕ, ◌+◌, ◌-◌, ◌*◌, ◌<◌, ◌≤◌, true, false, not, ◌&&◌, ◌||◌, ◌==◌, nat_lt};
+ghost use Rattle.remembered.specs.BitRow.{bit_in, Marked};
+ghost use Rattle.remembered.specs.Laws.{new_in, Least};
+ghost use Rattle.remembered.specs.SlotCars.{kept_count, places};
+ghost use Rattle.remembered.specs.Slots.{slot_has, slot_run, slot_pairs, is_over, KeepsPair, OverflowsCar, SlotNoted, SlotForgot, SlotStands};
 ghost use Rattle.remembered.specs.SlotLaws.{slot_keeps, slot_gains, slot_others, slot_lawful, slot_agrees, slot_tells, slot_forgets};
 ghost use Rattle.std.proofs.Common.{rules};
 
-use crate::RememberedSet;
-use crate::bits::{bit_at, clear, mark, next_bit};
+use crate::bit_row::BitRow;
+use crate::{CARS, RememberedSet, is_in_range};
+use std::marker::Model;
 
-// A bit for each car and address, 128 words for each car. The counts tell at once whether the set is full and
-// how many places a car gives back.
+// How many words of 64 bits hold a bit for each address.
+const WORDS: usize = 128;
+
+// How many pairs a slot set keeps.
+const PLACES: u32 = 2048;
+
+// The pairs of one car. The count tells at once how many places the car gives back.
+#[derive(Clone, Copy)]
+struct CarPairs {
+    kept: BitRow<WORDS>,
+    overflown: bool,
+    count: u32,
+}
+
+impl Model for CarPairs {
+    ghost use Rattle.std.specs.Prelude.{◌≡◌};
+    ghost use Rattle.remembered.specs.SlotCars.{Car, kept_count};
+
+    ghost Value = { Car };
+
+    ghost view = { λ p. record { kept = p.kept; overflown = p.overflown } };
+
+    ghost invariant = { λ p. p.count ≡ kept_count p.kept };
+
+    ghost inverse = { λ v. record { kept = v.kept; overflown = v.overflown; count = kept_count v.kept } };
+
+    ghost use Rattle.std.proofs.Common.{sym};
+
+    ghost inverse_ok = { λ p h i. record { kept = p.kept; overflown = p.overflown; count = sym h i } };
+}
+
+impl CarPairs {
+    // No pair is kept, and the car is not overflown.
+    fn none() -> CarPairs
+        ensures kept { (a : ℕ) → bit_in result.kept a ≡ false }
+        ensures over { result.overflown ≡ false }
+    {
+        CarPairs {
+            kept: BitRow::none(),
+            overflown: false,
+            count: 0,
+        }
+    }
+
+    // Whether a new pair of the car found the set full.
+    fn is_overflown(&self) -> bool
+        ensures { result ≡ self.now.overflown }
+    {
+        self.overflown
+    }
+
+    // Whether the pair with the address is not in the set.
+    fn lacks(&self, address: u32) -> bool
+        requires { address < 8192 }
+        ensures { result ≡ not (self.now.overflown || bit_in self.now.kept address) }
+    {
+        !self.overflown && !self.kept.has(address)
+    }
+
+    // Keeps an address.
+    fn keep(&mut self, address: u32)
+        requires address { address < 8192 }
+        requires new { bit_in self.old.kept address ≡ false }
+        ensures kept { Marked self.old.kept address self.new.kept }
+        ensures over { self.new.overflown ≡ self.old.overflown }
+    {
+        self.kept.mark(address);
+        self.count += 1;
+    }
+
+    // The car overflows.
+    fn overflow(&mut self)
+        ensures kept { self.new.kept ≡ self.old.kept }
+        ensures over { self.new.overflown ≡ true }
+    {
+        self.overflown = true;
+    }
+
+    // Drops all pairs of the car, and says how many places it gives back.
+    fn free(&mut self) -> u32
+        ensures kept { (a : ℕ) → bit_in self.new.kept a ≡ false }
+        ensures over { self.new.overflown ≡ false }
+        ensures count { result ≡ kept_count self.old.kept }
+    {
+        let count = self.count;
+        *self = CarPairs::none();
+        count
+    }
+
+    // The least address, at or above `from`, that the set pairs with the car.
+    fn next(&self, from: u32) -> Option<u32>
+        requires { from < 8192 }
+        ensures { Least (λ a. nat_lt a 8192 && (self.now.overflown || bit_in self.now.kept a)) from result }
+    {
+        if self.overflown {
+            return Some(from);
+        }
+        self.kept.next(from)
+    }
+}
+
+/// The pairs of each car, and how many places they use.
 #[derive(Drop)]
 pub struct SlotSet {
-    words: [u64; 8192],
-    overflown: [bool; 64],
-    counts: [u32; 64],
+    cars: [CarPairs; CARS],
     used: u32,
-    ghost full: { length words ≡ 8192 },
-    ghost flags: { length overflown ≡ 64 },
-    ghost cars: { length counts ≡ 64 },
-    ghost counted: { (c : ℕ) → c < 64 → slice_index counts c ≡ kept_of words c },
-    ghost tallied: { used ≡ places words },
-    ghost room: { used ≤ 2048 },
 }
 
-// No pair is kept.
-fn no_words() -> [u64; 8192]
-    ensures { result ≡ replicate 8192 0 }
-{
-    [0; 8192]
-}
+impl Model for SlotSet {
+    ghost use Rattle.std.specs.Prelude.{List};
+    ghost use Rattle.remembered.specs.SlotCars.{Car, IsTallied};
 
-// No car is overflown.
-fn no_flags() -> [bool; 64]
-    ensures { result ≡ replicate 64 false }
-{
-    [false; 64]
+    ghost Value = { List Car };
+
+    ghost view = { λ s. s.cars };
+
+    ghost invariant = { λ s. IsTallied s.cars s.used };
 }
 
 impl SlotSet {
-    // How many of the 2,048 places are in use.
+    /// How many of the 2,048 places are in use.
     pub fn in_use(&self) -> usize
-        ensures { (result ≡ self.now.used) × ((result ≡ places self.now.words) × (result ≤ 2048)) }
+        ensures value { result ≡ places self.now }
+        ensures fits { result ≤ 2048 }
     {
         self.used as usize
     }
 
-    // Whether a new pair of the car found the set full, and the car was not forgotten since.
+    /// Whether a new pair of the car found the set full, and the car was not forgotten since.
     pub fn is_overflown(&self, car: u32) -> bool
-        ensures { result ≡ (nat_lt car 64 && slice_index_or self.now.overflown car false) }
+        ensures { result ≡ is_over self.now car }
     {
-        car < 64 && self.overflown[car as usize]
+        (car as usize) < CARS && self.cars[car as usize].is_overflown()
     }
 
     // Whether the pair could be in the set and is not.
     fn lacks(&self, car: u32, address: u32) -> bool
-        ensures { result ≡ new_in (slot_pairs self.now.words self.now.overflown) car address }
+        ensures { result ≡ new_in (slot_pairs self.now) car address }
     {
-        car < 64
-            && address < 8192
-            && !self.overflown[car as usize]
-            && !bit_at(&self.words, 128 * car as usize, address as usize)
+        is_in_range(car, address) && self.cars[car as usize].lacks(address)
     }
 
     // Keeps a pair.
     fn keep(&mut self, car: u32, address: u32)
-        requires { (new_in (slot_pairs self.old.words self.old.overflown) car address ≡ true) × (self.old.used < 2048) }
-        ensures kept { (d b : ℕ) → kept self.new.words d b ≡ (kept self.old.words d b || (d == car && b == address)) }
-        ensures over { self.new.overflown ≡ self.old.overflown }
-        ensures used { self.new.used ≡ self.old.used + 1 }
+        requires new { new_in (slot_pairs self.old) car address ≡ true }
+        requires room { places self.old < 2048 }
+        ensures { KeepsPair self.old car address self.new }
     {
-        let i = car as usize;
-        mark(&mut self.words, 128 * i, address as usize);
-        self.counts[i] += 1;
+        self.cars[car as usize].keep(address);
         self.used += 1;
     }
 
-    // Frees the places of a car.
-    fn free(&mut self, car: usize)
+    // Makes a car overflow.
+    fn overflow(&mut self, car: u32)
         requires { car < 64 }
-        ensures { SlotForgot self.old.words self.old.overflown self.old.used car self.new.words self.new.overflown self.new.used }
+        ensures { OverflowsCar self.old car self.new }
     {
-        clear(&mut self.words, 128 * car, 128);
-        self.used -= self.counts[car];
-        self.counts[car] = 0;
-        self.overflown[car] = false;
+        self.cars[car as usize].overflow();
+    }
+
+    // Frees the places of a car.
+    fn free(&mut self, car: u32)
+        requires { car < 64 }
+        ensures { SlotForgot self.old car self.new }
+    {
+        self.used -= self.cars[car as usize].free();
     }
 }
 
 impl RememberedSet for SlotSet {
-    ghost has = { λ s c a. slot_pairs s.words s.overflown c a };
+    ghost has = { λ s c a. slot_pairs s c a };
 
-    ghost noted = { λ s c a t. SlotNoted s.words s.overflown s.used c a t.words t.overflown t.used };
+    ghost noted = { λ s c a t. SlotNoted s c a t };
 
-    ghost forgot = { λ s c t. SlotForgot s.words s.overflown s.used c t.words t.overflown t.used };
+    ghost forgot = { λ s c t. SlotForgot s c t };
 
     ghost means = { slot_has };
 
-    ghost told = { λ s r. SlotStands s.words s.overflown s.used (slot_run r) };
+    ghost told = { λ s r. SlotStands s (slot_run r) };
 
     ghost bounded = { Prim.search rules };
 
-    ghost keeps = { λ s t c a n. slot_keeps s.words s.overflown s.used c a t.words t.overflown t.used n };
+    ghost keeps = { λ s t c a n. slot_keeps s c a t n };
 
-    ghost gains = { λ s t c a n. slot_gains s.words s.overflown s.used c a t.words t.overflown t.used n };
+    ghost gains = { λ s t c a n. slot_gains s c a t n };
 
-    ghost others = { λ s t c n. slot_others s.words s.overflown s.used c t.words t.overflown t.used n };
+    ghost others = { λ s t c n. slot_others s c t n };
 
     ghost lawful = { slot_lawful };
 
-    ghost agrees = { λ s r h. slot_agrees s.words s.overflown s.used (slot_run r) h };
+    ghost agrees = { λ s r h. slot_agrees s (slot_run r) h };
 
-    ghost tells = { λ s t c a r n h. slot_tells s.words s.overflown s.used c a t.words t.overflown t.used (slot_run r) n h };
+    ghost tells = { λ s t c a r n h. slot_tells s c a t (slot_run r) n h };
 
-    ghost forgets = { λ s t c r n h. slot_forgets s.words s.overflown s.used c t.words t.overflown t.used (slot_run r) n h };
+    ghost forgets = { λ s t c r n h. slot_forgets s c t (slot_run r) n h };
 
     fn empty() -> SlotSet {
         SlotSet {
-            words: no_words(),
-            overflown: no_flags(),
-            counts: [0; 64],
+            cars: [CarPairs::none(); CARS],
             used: 0,
         }
     }
@@ -128,29 +219,23 @@ impl RememberedSet for SlotSet {
         if !self.lacks(car, address) {
             return;
         }
-        if self.used < 2048 {
+        if self.used < PLACES {
             self.keep(car, address);
         } else {
-            self.overflown[car as usize] = true;
+            self.overflow(car);
         }
     }
 
     fn next(&self, car: u32, from: u32) -> Option<u32> {
-        if car >= 64 || from >= 8192 {
+        if !is_in_range(car, from) {
             return None;
         }
-        if self.overflown[car as usize] {
-            return Some(from);
-        }
-        match next_bit(&self.words, 128 * car as usize, 128, from as usize) {
-            Some(address) => Some(address as u32),
-            None => None,
-        }
+        self.cars[car as usize].next(from)
     }
 
     fn forget(&mut self, car: u32) {
-        if car < 64 {
-            self.free(car as usize);
+        if (car as usize) < CARS {
+            self.free(car);
         }
     }
 }

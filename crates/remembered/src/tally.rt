@@ -1,10 +1,12 @@
-// Counting a car's pairs.
+//! Counting a car's pairs.
+
 ghost use Rattle.std.specs.Prelude.{◌≡◌};
 ghost use Rattle.remembered.specs.Meaning.{pairs_of};
 
 use crate::RememberedSet;
 
-fn count_by_next<R: RememberedSet>(rset: &R, car: u32) -> u32
+/// How many pairs of a car a set has, found by `next` alone.
+pub fn pairs<R: RememberedSet>(rset: &R, car: u32) -> u32
     ensures { result ≡ pairs_of (R.has rset.now) car }
 {
     let mut n: u32 = 0;
@@ -14,11 +16,4 @@ fn count_by_next<R: RememberedSet>(rset: &R, car: u32) -> u32
         from = address + 1;
     }
     n
-}
-
-// How many pairs of a car a set has, found by `next` alone.
-pub fn pairs<R: RememberedSet>(rset: &R, car: u32) -> u32
-    ensures { result ≡ pairs_of (R.has rset.now) car }
-{
-    count_by_next(rset, car)
 }

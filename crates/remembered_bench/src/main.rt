@@ -1,5 +1,6 @@
-// The sets against a plain table with a flag for each car and address: the same notes, counts and forgets.
-// With no argument it prints how many pairs each found, with one it prints times too.
+//! The sets against a plain table with a flag for each car and address: the same notes, counts and forgets.
+//! With no argument it prints how many pairs each found, with one it prints times too.
+
 #![tactic(auto)]
 
 mod plain;

@@ -1,4 +1,7 @@
-// The same work on a table with a flag for each car and address.
+//! The same work on a table with a flag for each car and address.
+//!
+//! `note_drawn` and `count_and_forget` repeat those of `work` step by step, since the two are compared by their times.
+
 use crate::work::{address_of, car_of, draw};
 
 fn note_drawn(table: &mut [bool], from: u32) -> u32 {
@@ -24,7 +27,7 @@ fn count_and_forget(table: &mut [bool]) -> u64 {
     found
 }
 
-// How many flags were seen to be set.
+/// How many flags were seen to be set.
 pub fn with_table(table: &mut [bool], rounds: u32) -> u64 {
     let mut seed = 1;
     let mut found: u64 = 0;

@@ -1,17 +1,19 @@
-// The work of one round: notes of drawn pairs, then each car counted and forgotten.
+//! The work of one round: notes of drawn pairs, then each car counted and forgotten.
+
 use remembered::RememberedSet;
 use remembered::tally::pairs;
 
-// The next number of a small generator.
+/// The next number of a small generator.
 pub fn draw(seed: u32) -> u32 {
     seed.wrapping_mul(1664525).wrapping_add(1013904223)
 }
 
-// The car and the address that a number stands for, both in range.
+/// The car that a number stands for, in range.
 pub fn car_of(seed: u32) -> u32 {
     seed / 0x400_0000
 }
 
+/// The address that a number stands for, in range.
 pub fn address_of(seed: u32) -> u32 {
     seed / 256 % 8192
 }
@@ -34,7 +36,7 @@ fn count_and_forget<R: RememberedSet>(rset: &mut R) -> u64 {
     found
 }
 
-// How many pairs a set was seen to have.
+/// How many pairs a set was seen to have.
 pub fn with_set<R: RememberedSet>(rset: &mut R, rounds: u32) -> u64 {
     let mut seed = 1;
     let mut found: u64 = 0;

@@ -1,7 +1,8 @@
-// Lists of calls with the answers expected of each remembered set.
+//! Lists of cases with the answers expected of each remembered set.
+
 #![tactic(auto)]
 
 #[cfg(test)]
-mod calls;
+mod cases;
 #[cfg(test)]
 mod tests;

@@ -1,24 +1,10 @@
-use Rattle.std.proofs.Common.{◌≡◌, ◌≤◌, length, get_or, refl, subst, arith}
-use Rattle.remembered.specs.BufferLaws.{P0, sends_none, sends_more, ranged_none}
+use Rattle.std.proofs.Common.{arith}
+use Rattle.remembered.specs.BufferLaws.{sends_none, sends_more}
 use Rattle.remembered.proofs.buffered.Buffered.send_down.Goals as goal
 
-pub loop-i-init : goal.loop-i-init
-loop-i-init g c = (refl, refl, sends_none g.S.RememberedSet.noted c.args.self.now.below)
+pub loop-pair-init : goal.loop-pair-init
+loop-pair-init g c = sends_none g.S.RememberedSet.noted c.args.self.now.below
 
-pub loop-i-preserved : goal.loop-i-preserved
-loop-i-preserved g c =
-    let inv = c.loop-i.invariant in
-    let s = c.args.self.now in
-    let N = g.S.RememberedSet.noted in
-    let i = c.loop-i.i in
-    let full : length s.held ≡ 16 = s.full in
-    let few : s.count ≤ 16 = s.few in
-    let one = subst (λ l. N c.loop-i.self.below (get_or l i P0).car (get_or l i P0).address c.note.new.self) inv.0 c.note.ensures in
-    (inv.0, inv.1, sends_more N s.below s.held i c.loop-i.self.below c.note.new.self (omega arith) inv.2 one)
-
-pub invariant_of-self-2 : goal.invariant_of-self-2
-invariant_of-self-2 g c = record {
-  full = c.loop-i.self.full;
-  few = omega arith;
-  near = ranged_none;
-}
+pub loop-pair-preserved : goal.loop-pair-preserved
+loop-pair-preserved g c =
+    sends_more g.S.RememberedSet.noted c.args.self.now.below c.as_slice-pair-items.result.now c.loop-pair.pair-index _ c.loop-pair.below _ (omega arith) c.loop-pair.invariant c.note.ensures

@@ -1,40 +1,23 @@
-use Rattle.std.proofs.Common.{◌≡◌, length, ◌∙◌, arith, length-set}
-use Rattle.remembered.specs.SlotLaws.{cleared_kept, counted_less, places_less, places_part, lowered, freed_pairs}
+use Rattle.std.proofs.Common.{◌∙◌, arith, length-set}
+use Rattle.remembered.specs.SlotLaws.{frees_car, freed_count}
 use Rattle.remembered.proofs.slot.SlotSet.free.Goals as goal
 
 pub overflow_sub-self : goal.overflow_sub-self
 overflow_sub-self c =
-    let s = c.args.self.now in
-    omega (arith, s.counted c.args.car c.requires, places_part s.words c.args.car c.requires)
+    let was = c.self.invariant in
+    let count = freed_count c.self.inside.cars c.args.car c.index-self-car.result was.full c.requires in
+    omega (arith, c.free.ensures.count, count.0, count.1, was.tallied)
+
+pub returns : goal.returns
+returns c = rw (← c.self.view_is) (frees_car c.self.inside.cars c.args.car _ c.self.invariant.full c.requires c.free.ensures.kept c.free.ensures.over)
 
 pub invariant_of-self : goal.invariant_of-self
 invariant_of-self c =
-    let s = c.args.self.now in
-    let d = c.args.car in
-    let vs = c.clear.new.words in
-    let h = cleared_kept s.words vs d c.clear.ensures in
-    let cars : length s.counts ≡ 64 = s.cars in
-    let flags : length s.overflown ≡ 64 = s.flags in
-    let at = s.counted d c.requires in
+    let was = c.self.invariant in
+    let count = freed_count c.self.inside.cars c.args.car c.index-self-car.result was.full c.requires in
+    let freed = frees_car c.self.inside.cars c.args.car c.free.new.self was.full c.requires c.free.ensures.kept c.free.ensures.over in
     record {
-      full = omega arith;
-      flags = length-set s.overflown d _ ∙ flags;
-      cars = length-set s.counts d _ ∙ cars;
-      counted = counted_less s.words vs s.counts d (omega (arith, c.requires)) h s.counted;
-      tallied = omega (arith, at, s.tallied, places_less s.words vs d c.requires h);
-      room = omega (arith, s.room);
-    }
-
-pub returns : goal.returns
-returns c =
-    let s = c.args.self.now in
-    let d = c.args.car in
-    let vs = c.clear.new.words in
-    let stay = cleared_kept s.words vs d c.clear.ensures in
-    let low = lowered s.overflown d (omega (arith, c.requires, s.flags)) in
-    record {
-      others = freed_pairs s.words s.overflown d vs _ stay low;
-      others_kept = stay;
-      others_over = low;
-      frees = omega (arith, s.counted d c.requires);
+      full = length-set c.self.inside.cars c.args.car _ ∙ was.full;
+      tallied = omega (arith, freed.frees, c.free.ensures.count, count.0, was.tallied);
+      room = omega (arith, was.room);
     }

@@ -1,27 +1,22 @@
-use Rattle.std.proofs.Common.{◌≡◌, length, ◌∙◌, arith, length-set}
-use Rattle.remembered.specs.SlotLaws.{new_parts, marked-kept, counted_more, places_more, places_part}
+use Rattle.std.proofs.Common.{◌≡◌, true, sym, ap, ◌∙◌, subst, arith, length-set}
+use Rattle.remembered.specs.Laws.{new_in}
+use Rattle.remembered.specs.SlotCars.{places}
+use Rattle.remembered.specs.SlotLaws.{keeps_pair}
+use Rattle.remembered.specs.Slots.{slot_pairs}
 use Rattle.remembered.proofs.slot.SlotSet.keep.Goals as goal
 
-pub overflow_add-self : goal.overflow_add-self
-overflow_add-self c =
-    let s = c.args.self.now in
-    let n = new_parts s.words s.overflown c.args.car c.args.address c.requires.0 in
-    omega (arith, n.0, s.counted c.args.car n.0, places_part s.words c.args.car n.0)
+pub returns : goal.returns
+returns c =
+    let new = subst (λ l. new_in (slot_pairs l) c.args.car c.args.address ≡ true) (sym c.self.view_is) c.requires.new in
+    rw (← c.self.view_is) (keeps_pair c.self.inside.cars c.args.car c.args.address c.index-self-car.result _ c.self.invariant.full new c.keep.ensures.kept c.keep.ensures.over)
 
 pub invariant_of-self : goal.invariant_of-self
 invariant_of-self c =
-    let s = c.args.self.now in
-    let d = c.args.car in
-    let a = c.args.address in
-    let vs = c.mark.new.words in
-    let n = new_parts s.words s.overflown d a c.requires.0 in
-    let h = marked-kept s.words vs d a n.0 n.1 c.mark.ensures in
-    let cars : length s.counts ≡ 64 = s.cars in
+    let was = c.self.invariant in
+    let new = subst (λ l. new_in (slot_pairs l) c.args.car c.args.address ≡ true) (sym c.self.view_is) c.requires.new in
+    let kept = keeps_pair c.self.inside.cars c.args.car c.args.address c.index-self-car.result c.keep.new.self was.full new c.keep.ensures.kept c.keep.ensures.over in
     record {
-      full = omega arith;
-      flags = s.flags;
-      cars = length-set s.counts d _ ∙ cars;
-      counted = counted_more s.words vs s.counts d a n.1 (omega (arith, n.0)) n.2 h s.counted;
-      tallied = omega (arith, s.tallied, places_more s.words vs d a n.0 n.1 n.2 h);
-      room = omega (arith, c.requires.1);
+      full = length-set c.self.inside.cars c.args.car _ ∙ was.full;
+      tallied = omega (arith, kept.used_more, was.tallied);
+      room = omega (arith, ap places c.self.view_is, c.requires.room, was.tallied);
     }

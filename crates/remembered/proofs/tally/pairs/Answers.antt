@@ -1,6 +1,6 @@
 use Rattle.std.proofs.Common.{◌<◌, ◌≤◌, sym, refl, ◌∙◌, arith}
 use Rattle.remembered.specs.Counts.{count_upto, count-one}
-use Rattle.remembered.proofs.tally.count_by_next.Goals as goal
+use Rattle.remembered.proofs.tally.pairs.Goals as goal
 
 pub loop-address-init : goal.loop-address-init
 loop-address-init g c = (omega arith, omega arith, refl)
