@@ -1,8 +1,8 @@
 -- What the loops that cut a script and a line keep.
-use Rattle.std.proofs.Common.{◌≡◌, ℕ, zero, suc, ◌+◌, ◌-◌, ◌<◌, ◌≤◌, Bool, true, false, cond, not, eqb, ◌⊎◌, List, [], ◌∷◌, length, get_or, take, drop, Some, None, Option, sym, refl, ap, ◌∙◌, ⊎_elim, suc-add, zero-add, arith, length-drop, eq-eqb, ne_eqb}
+use Rattle.std.proofs.Common.{◌≡◌, ℕ, zero, suc, ◌+◌, ◌-◌, ◌<◌, ◌≤◌, Bool, true, false, cond, not, eqb, ◌⊎◌, List, [], ◌∷◌, length, get_or, take, drop, slice_get, Some, None, Option, sym, refl, ap, ◌∙◌, ⊎_elim, suc-add, zero-add, arith, length-drop, eq-eqb, ne_eqb}
 use Rattle.std.proofs.lemmas.List.{drop_more, drop_all, drop-drop}
 use Rattle.script_reader.specs.Lines.{onto, parted, lines, reach}
-use Rattle.script_reader.specs.Words.{cut, Word, placed, word_no}
+use Rattle.script_reader.specs.Words.{cut, Word, placed}
 
 -- how many lines begin in these bytes, inside a line or at the start of one
 abbrev pub further : Bool → List ℕ → ℕ
@@ -71,16 +71,16 @@ first_piece (b ∷ bs) =
       | false ↦ ((first_piece bs).0, ap (onto b) (first_piece bs).1)
     ]
 
-place_more : (k at : ℕ) (b : ℕ) (ps : List (List ℕ)) → word_no (placed at (onto b ps)) (suc k) ≡ word_no (placed (at + 1) ps) (suc k)
+place_more : (k at : ℕ) (b : ℕ) (ps : List (List ℕ)) → slice_get (placed at (onto b ps)) (suc k) ≡ slice_get (placed (at + 1) ps) (suc k)
 place_more k at b [] = refl
-place_more k at b (p ∷ ps) = let e : at + suc (length p) + 1 ≡ at + 1 + length p + 1 = omega arith in ap (λ m. word_no (placed m ps) k) e
+place_more k at b (p ∷ ps) = let e : at + suc (length p) + 1 ≡ at + 1 + length p + 1 = omega arith in ap (λ m. slice_get (placed m ps) k) e
 
-pub nth_is : (k at : ℕ) (bs : List ℕ) → nth_from k at bs ≡ word_no (placed at (cut bs)) k
-nth_is zero at bs = sym (ap (λ ps. word_no (placed at ps) 0) (first_piece bs).1)
+pub nth_is : (k at : ℕ) (bs : List ℕ) → nth_from k at bs ≡ slice_get (placed at (cut bs)) k
+nth_is zero at bs = sym (ap (λ ps. slice_get (placed at ps) 0) (first_piece bs).1)
 nth_is (suc k) at [] = refl
 nth_is (suc k) at (b ∷ bs) =
-    elim (eqb b 32) as (λ v. nth_from (cond v k (suc k)) (at + 1) bs ≡ word_no (placed at (parted v b (cut bs))) (suc k)) [
-      | true ↦ nth_is k (at + 1) bs ∙ (let e : at + 1 ≡ at + 0 + 1 = omega arith in ap (λ m. word_no (placed m (cut bs)) k) e)
+    elim (eqb b 32) as (λ v. nth_from (cond v k (suc k)) (at + 1) bs ≡ slice_get (placed at (parted v b (cut bs))) (suc k)) [
+      | true ↦ nth_is k (at + 1) bs ∙ (let e : at + 1 ≡ at + 0 + 1 = omega arith in ap (λ m. slice_get (placed m (cut bs)) k) e)
       | false ↦ nth_is (suc k) (at + 1) bs ∙ sym (place_more k at b (cut bs))
     ]
 

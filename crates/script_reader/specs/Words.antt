@@ -1,5 +1,6 @@
 -- The words of a line.
-use Rattle.std.specs.Prelude.{◌≡◌, ℕ, zero, suc, ◌+◌, ◌≤◌, Bool, true, false, List, [], ◌∷◌, length, take, drop, Some, None, Option, ◌==◌}
+use Rattle.std.specs.Prelude.{◌≡◌, ℕ, ◌+◌, ◌≤◌, Bool, true, false, List, [], ◌∷◌, length, take, drop, Some, None, Option, ◌==◌, slice_get}
+use Rattle.script_reader.specs.declared.words.Word as lent
 use Rattle.script_reader.specs.declared.words.Token.{Token}
 use Rattle.script_reader.specs.declared.words.Token.TheVariants.{Name, Number}
 use Rattle.script_reader.specs.Lines.{parted, reach}
@@ -23,21 +24,19 @@ placed at (p ∷ ps) = record { text = p; place = at } ∷ placed (at + length p
 abbrev pub words : List ℕ → List Word
 words line = placed 0 (cut line)
 
--- the word with this number, counted from 0
-abbrev pub word_no : List Word → ℕ → Option Word
-word_no [] k = None
-word_no (w ∷ ws) zero = Some w
-word_no (w ∷ ws) (suc k) = word_no ws k
+-- a word's text without the reference to it, and its place
+abbrev pub piece : lent.Word → Word
+piece w = record { text = w.text.now; place = w.place }
 
 -- a token's piece of the line and its place
 abbrev pub seen : Token → Word
-seen (Name text place) = record { text = text.now; place = place }
-seen (Number text place) = record { text = text.now; place = place }
+seen (Name word) = piece word
+seen (Number word) = piece word
 
 -- whether a token is a call's name
 abbrev pub is_name : Token → Bool
-is_name (Name text place) = true
-is_name (Number text place) = false
+is_name (Name word) = true
+is_name (Number word) = false
 
 -- the word that begins at p
 abbrev pub word_from : List ℕ → ℕ → Word
@@ -45,5 +44,5 @@ word_from line p = record { text = take (reach 32 (drop p line)) (drop p line); 
 
 -- where the word with number k begins
 abbrev pub StartsAt : List ℕ → ℕ → Option ℕ → Type 0
-StartsAt line k None = word_no (words line) k ≡ None
-StartsAt line k (Some p) = (p ≤ length line) × (word_no (words line) k ≡ Some (word_from line p))
+StartsAt line k None = slice_get (words line) k ≡ None
+StartsAt line k (Some p) = (p ≤ length line) × (slice_get (words line) k ≡ Some (word_from line p))

@@ -1,36 +1,49 @@
 // The words of a line. A line is cut at every single space, so a word may be empty.
-ghost use Rattle.std.specs.Prelude.{◌≡◌, IfSome, ◌==◌};
+ghost use Rattle.std.specs.Prelude.{◌≡◌, IfSome, ◌==◌, slice_get};
 ghost use Rattle.std.specs.Option.{option_map};
-ghost use Rattle.script_reader.specs.Words.{words, word_no, seen, is_name, StartsAt};
+ghost use Rattle.script_reader.specs.Words.{words, piece, seen, is_name, StartsAt};
 
 use crate::pieces::piece_end;
 
 const SPACE: u8 = 32;
 
-// A word as the reader hands it on: its piece of the line, and where that begins.
-#[derive(Clone, Copy)]
+/// A piece of a line between two spaces.
+#[derive(Clone, Copy, PartialEq, Eq, Debug)]
+pub struct Word<'a> {
+    pub text: &'a [u8],
+    /// Where it begins in its line, in bytes from 0.
+    pub place: usize,
+}
+
+/// A word as the reader hands it on: the first of a line is a call's name, the others are its numbers.
+#[derive(Clone, Copy, PartialEq, Eq, Debug)]
 pub enum Token<'a> {
-    Name { text: &'a [u8], place: usize },
-    Number { text: &'a [u8], place: usize },
+    Name(Word<'a>),
+    Number(Word<'a>),
 }
 
 impl<'a> Token<'a> {
-    pub fn text(self) -> &'a [u8]
-        ensures { result.now ≡ (seen self.entry).text }
+    /// The word, whichever it is.
+    pub fn word(self) -> Word<'a>
+        ensures { piece result ≡ seen self.entry }
     {
         match self {
-            Token::Name { text, .. } => text,
-            Token::Number { text, .. } => text,
+            Token::Name(word) | Token::Number(word) => word,
         }
     }
 
+    /// The word's piece of the line.
+    pub fn text(self) -> &'a [u8]
+        ensures { result.now ≡ (seen self.entry).text }
+    {
+        self.word().text
+    }
+
+    /// Where the word begins in its line, in bytes from 0.
     pub fn place(self) -> usize
         ensures { result ≡ (seen self.entry).place }
     {
-        match self {
-            Token::Name { place, .. } => place,
-            Token::Number { place, .. } => place,
-        }
+        self.word().place
     }
 }
 
@@ -52,17 +65,20 @@ fn word_start(line: &[u8], index: usize) -> Option<usize>
     Some(at)
 }
 
-// Word `index` of a line, counted from 0; the first is the call's name, the others are its numbers.
+/// Word `index` of a line, counted from 0; none if the line has no such word.
 pub fn nth_word<'a>(line: &'a [u8], index: usize) -> Option<Token<'a>>
-    ensures word { option_map seen result ≡ word_no (words line.now) index }
+    ensures word { option_map seen result ≡ slice_get (words line.now) index }
     ensures variant { IfSome result (λ t. is_name t ≡ (index == 0)) }
 {
     let place = word_start(line, index)?;
     let end = piece_end(line, place, SPACE);
-    let text = &line[place..end];
+    let word = Word {
+        text: &line[place..end],
+        place,
+    };
     if index == 0 {
-        Some(Token::Name { text, place })
+        Some(Token::Name(word))
     } else {
-        Some(Token::Number { text, place })
+        Some(Token::Number(word))
     }
 }

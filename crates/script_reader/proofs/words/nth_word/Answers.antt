@@ -2,5 +2,5 @@ use Rattle.std.proofs.Common.{rules}
 use Rattle.script_reader.proofs.Cuts.{reach-within}
 use Rattle.script_reader.proofs.words.nth_word.Goals as goal
 
-pub slice_bounds-text-end : goal.slice_bounds-text-end
-slice_bounds-text-end c = search (rules, reach-within)
+pub slice_bounds-word-end : goal.slice_bounds-word-end
+slice_bounds-word-end c = search (rules, reach-within)
