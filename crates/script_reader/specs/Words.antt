@@ -1,14 +1,12 @@
 -- The words of a line.
-use Rattle.std.specs.Prelude.{◌≡◌, ℕ, ◌+◌, ◌≤◌, Bool, true, false, List, [], ◌∷◌, length, take, drop, Some, None, Option, ◌==◌, slice_get}
+use Rattle.std.specs.Prelude.{ℕ, ◌+◌, ◌-◌, Bool, true, false, List, [], ◌∷◌, length, Option}
+use Rattle.std.specs.Borrow.{Bor}
+use Rattle.std.specs.List.{slice_split}
+use Rattle.std.specs.Option.{option_map_or}
 use Rattle.script_reader.specs.declared.words.Word as lent
 use Rattle.script_reader.specs.declared.words.Token.{Token}
 use Rattle.script_reader.specs.declared.words.Token.TheVariants.{Name, Number}
-use Rattle.script_reader.specs.Lines.{parted, reach}
-
--- the pieces between the single spaces of a line, the empty ones too
-abbrev pub cut : List ℕ → List (List ℕ)
-cut [] = [] ∷ []
-cut (b ∷ bs) = parted (b == 32) b (cut bs)
+use Rattle.script_reader.specs.Lines.{is_byte}
 
 -- a piece of a line with the place where it begins
 pub record Word : Type 0 where
@@ -20,9 +18,13 @@ abbrev pub placed : ℕ → List (List ℕ) → List Word
 placed at [] = []
 placed at (p ∷ ps) = record { text = p; place = at } ∷ placed (at + length p + 1) ps
 
--- the words of a line; the first begins at 0
+-- the words of a line, which is cut at every single space, so that one may be empty; the first begins at 0
 abbrev pub words : List ℕ → List Word
-words line = placed 0 (cut line)
+words line = placed 0 (slice_split (is_byte 32) line)
+
+-- the words of what is left of a line at its end
+abbrev pub words_left : List ℕ → Option (Bor (List ℕ)) → List Word
+words_left line rest = option_map_or (λ r. placed (length line - length r.now) (slice_split (is_byte 32) r.now)) rest []
 
 -- a word's text without the reference to it, and its place
 abbrev pub piece : lent.Word → Word
@@ -37,12 +39,3 @@ seen (Number word) = piece word
 abbrev pub is_name : Token → Bool
 is_name (Name word) = true
 is_name (Number word) = false
-
--- the word that begins at p
-abbrev pub word_from : List ℕ → ℕ → Word
-word_from line p = record { text = take (reach 32 (drop p line)) (drop p line); place = p }
-
--- where the word with number k begins
-abbrev pub StartsAt : List ℕ → ℕ → Option ℕ → Type 0
-StartsAt line k None = slice_get (words line) k ≡ None
-StartsAt line k (Some p) = (p ≤ length line) × (slice_get (words line) k ≡ Some (word_from line p))

@@ -1,5 +1,5 @@
 // Numbers as a script writes them: digits with no leading zero, and a minus sign exactly where one is negative.
-ghost use Rattle.std.specs.Prelude.{◌≡◌, Some};
+ghost use Rattle.std.specs.Prelude.{◌≡◌, ℕ, List, Option, Some};
 ghost use Rattle.calls.specs.Numbers.{NumbersReadBack, onward, no_leading_zero, natural_of, integer_of, minus};
 
 // There is a byte, and no zero in front of another.
@@ -55,6 +55,31 @@ fn negative(size: u32) -> Option<i32>
         None
     } else {
         i32::try_from(-i64::from(size)).ok()
+    }
+}
+
+/// A type of numbers that a word of a script can write.
+pub(crate) trait Numeral: Sized {
+    ghost written: { List ℕ → Option Self };
+
+    // The number that `text` writes.
+    fn read(text: &[u8]) -> Option<Self>
+        ensures { result ≡ written text.now };
+}
+
+impl Numeral for u32 {
+    ghost written = { natural_of };
+
+    fn read(text: &[u8]) -> Option<u32> {
+        natural(text)
+    }
+}
+
+impl Numeral for i32 {
+    ghost written = { integer_of };
+
+    fn read(text: &[u8]) -> Option<i32> {
+        integer(text)
     }
 }
 

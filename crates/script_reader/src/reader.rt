@@ -2,10 +2,10 @@
 ghost use Rattle.std.specs.Prelude.{◌≡◌, ◌≤◌};
 ghost use Rattle.calls.specs.Faults.{bad_words};
 ghost use Rattle.script_reader.specs.Words.{piece};
-ghost use Rattle.script_reader.specs.Reader.{word, natural_at, integer_at, numbers_of, name_of, counted, line_of, player_of};
+ghost use Rattle.script_reader.specs.Reader.{word, number_at, numbers_of, name_of, counted, line_of, player_of};
 
 use crate::names::Name;
-use crate::numbers::{integer, natural};
+use crate::numbers::Numeral;
 use crate::words::{Word, nth_word};
 use calls::call::Call;
 use calls::faults::{LineFault, PlayerFault, WordFault};
@@ -60,21 +60,12 @@ impl<'a> NumberedLine<'a> {
         }
     }
 
-    fn natural(self, index: usize) -> Result<u32, WordFault>
-        ensures { result ≡ natural_at self.entry.number self.entry.text.now index }
+    // Word `index` as a number.
+    fn number<T: Numeral>(self, index: usize) -> Result<T, WordFault>
+        ensures { result ≡ number_at T.written self.entry.number self.entry.text.now index }
     {
         let word = self.word(index);
-        natural(word.text).ok_or(WordFault {
-            line: self.number,
-            place: word.place,
-        })
-    }
-
-    fn integer(self, index: usize) -> Result<i32, WordFault>
-        ensures { result ≡ integer_at self.entry.number self.entry.text.now index }
-    {
-        let word = self.word(index);
-        integer(word.text).ok_or(WordFault {
+        T::read(word.text).ok_or(WordFault {
             line: self.number,
             place: word.place,
         })
@@ -86,41 +77,41 @@ impl<'a> NumberedLine<'a> {
     {
         Ok(match name {
             Name::Make => Call::Make {
-                root: self.natural(1)?,
-                kind: self.natural(2)?,
-                refs: self.natural(3)?,
-                words: self.natural(4)?,
+                root: self.number(1)?,
+                kind: self.number(2)?,
+                refs: self.number(3)?,
+                words: self.number(4)?,
             },
             Name::Link => Call::Link {
-                root: self.natural(1)?,
-                slot: self.natural(2)?,
-                from: self.natural(3)?,
+                root: self.number(1)?,
+                slot: self.number(2)?,
+                from: self.number(3)?,
             },
             Name::Follow => Call::Follow {
-                root: self.natural(1)?,
-                from: self.natural(2)?,
-                slot: self.natural(3)?,
+                root: self.number(1)?,
+                from: self.number(2)?,
+                slot: self.number(3)?,
             },
             Name::Drop => Call::Drop {
-                root: self.natural(1)?,
+                root: self.number(1)?,
             },
             Name::Put => Call::Put {
-                root: self.natural(1)?,
-                word: self.natural(2)?,
-                value: self.natural(3)?,
+                root: self.number(1)?,
+                word: self.number(2)?,
+                value: self.number(3)?,
             },
             Name::Lift => Call::Lift {
-                root: self.natural(1)?,
-                word: self.natural(2)?,
-                by: self.integer(3)?,
+                root: self.number(1)?,
+                word: self.number(2)?,
+                by: self.number(3)?,
             },
             Name::Get => Call::Get {
-                root: self.natural(1)?,
-                word: self.natural(2)?,
+                root: self.number(1)?,
+                word: self.number(2)?,
             },
             Name::Same => Call::Same {
-                root: self.natural(1)?,
-                other: self.natural(2)?,
+                root: self.number(1)?,
+                other: self.number(2)?,
             },
             Name::Step => Call::Step,
             Name::Tally => Call::Tally,

@@ -1,11 +1,12 @@
 // The words of a line. A line is cut at every single space, so a word may be empty.
-ghost use Rattle.std.specs.Prelude.{◌≡◌, IfSome, ◌==◌, slice_get};
-ghost use Rattle.std.specs.Option.{option_map};
-ghost use Rattle.script_reader.specs.Words.{words, piece, seen, is_name, StartsAt};
+ghost use Rattle.std.specs.Prelude.{◌≡◌, ◌≤◌, IfSome, ◌==◌, length, slice_get};
+ghost use Rattle.std.specs.Option.{option_map, option_map_or};
+ghost use Rattle.std.specs.Iterator.{YieldsFirstBy, item_count};
+ghost use Rattle.script_reader.specs.Words.{words, words_left, piece, seen, is_name};
 
-use crate::pieces::piece_end;
+use crate::pieces::cut_at;
 
-const SPACE: u8 = 32;
+const SPACE: u8 = b' ';
 
 /// A piece of a line between two spaces.
 #[derive(Clone, Copy, PartialEq, Eq, Debug)]
@@ -47,22 +48,45 @@ impl<'a> Token<'a> {
     }
 }
 
-// Where word `index` begins: behind as many spaces.
-fn word_start(line: &[u8], index: usize) -> Option<usize>
-    ensures { StartsAt line.now index result }
-{
-    let mut left = index;
-    let mut at = 0;
-    while left > 0 {
-        if at >= line.len() {
-            return None;
+// The words of what is left of a line at its end, or none behind the last one.
+#[derive(Drop)]
+struct Words<'a> {
+    line: &'a [u8],
+    rest: Option<&'a [u8]>,
+    ghost within: { option_map_or (λ r. length r.now) rest 0 ≤ length line.now },
+}
+
+impl<'a> Words<'a> {
+    fn new(line: &'a [u8]) -> Words<'a>
+        ensures { words_left result.line.now result.rest ≡ words line.now }
+    {
+        Words {
+            line,
+            rest: Some(line),
         }
-        if line[at] == SPACE {
-            left -= 1;
-        }
-        at += 1;
     }
-    Some(at)
+}
+
+impl<'a> Iterator for Words<'a> {
+    type Item = Word<'a>;
+
+    ghost next_gives = { YieldsFirstBy piece (λ s. words_left s.line.now s.rest) };
+
+    ghost remaining = { item_count (λ s. words_left s.line.now s.rest) };
+
+    fn next(&mut self) -> Option<Word<'a>> {
+        let rest = self.rest?;
+        let place = self.line.len() - rest.len();
+        let (text, behind) = cut_at(rest, SPACE);
+        self.rest = behind;
+        Some(Word { text, place })
+    }
+}
+
+fn word_at(line: &[u8], index: usize) -> Option<Word<'_>>
+    ensures { option_map piece result ≡ slice_get (words line.now) index }
+{
+    Words::new(line).nth(index)
 }
 
 /// Word `index` of a line, counted from 0; none if the line has no such word.
@@ -70,12 +94,7 @@ pub fn nth_word<'a>(line: &'a [u8], index: usize) -> Option<Token<'a>>
     ensures word { option_map seen result ≡ slice_get (words line.now) index }
     ensures variant { IfSome result (λ t. is_name t ≡ (index == 0)) }
 {
-    let place = word_start(line, index)?;
-    let end = piece_end(line, place, SPACE);
-    let word = Word {
-        text: &line[place..end],
-        place,
-    };
+    let word = word_at(line, index)?;
     if index == 0 {
         Some(Token::Name(word))
     } else {
