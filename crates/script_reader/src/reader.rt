@@ -6,7 +6,7 @@ ghost use Rattle.script_reader.specs.Reader.{word, number_at, numbers_of, name_o
 
 use crate::names::Name;
 use crate::numbers::Numeral;
-use crate::words::{Word, nth_word};
+use crate::words::{Token, Word, nth_word};
 use calls::call::Call;
 use calls::faults::{LineFault, PlayerFault, WordFault};
 
@@ -29,21 +29,17 @@ impl<'a> NumberedLine<'a> {
     fn word(self, index: usize) -> Word<'a>
         ensures { piece result ≡ word self.entry.text.now index }
     {
-        match nth_word(self.text, index) {
-            Some(token) => token.word(),
-            None => Word {
-                text: &[],
-                place: self.text.len(),
-            },
-        }
+        let missing = Word {
+            text: &[],
+            place: self.text.len(),
+        };
+        nth_word(self.text, index).map_or(missing, Token::word)
     }
 
     fn name(self) -> Result<Name, LineFault>
         ensures { result ≡ name_of self.entry.number self.entry.text.now }
     {
-        Name::try_from(self.word(0).text)
-            .ok()
-            .ok_or(self.bad_words(0))
+        Name::try_from(self.word(0).text).or(Err(self.bad_words(0)))
     }
 
     // Whether just `count` words stand behind the first.
@@ -51,9 +47,7 @@ impl<'a> NumberedLine<'a> {
         requires { count ≤ 4 }
         ensures { result ≡ counted self.entry.number self.entry.text.now count }
     {
-        if nth_word(self.text, count).is_none() {
-            return Err(self.bad_words(self.text.len()));
-        }
+        nth_word(self.text, count).ok_or(self.bad_words(self.text.len()))?;
         match nth_word(self.text, count + 1) {
             None => Ok(()),
             Some(surplus) => Err(self.bad_words(surplus.place())),
