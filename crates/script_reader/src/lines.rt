@@ -1,13 +1,16 @@
 // A script's lines. Each ends in byte 10; the last may lack it, but is then not empty.
-ghost use Rattle.std.specs.Prelude.{◌≡◌};
+ghost use Rattle.std.specs.Prelude.{◌≡◌, ℕ, List};
 ghost use Rattle.std.specs.Result.{result_ok};
 ghost use Rattle.std.specs.Iterator.{YieldsFirstRef, item_count};
 ghost use Rattle.script_reader.specs.Lines.{lines, lines_within, LineAt, CutsLine};
 
 use crate::pieces::cut_at;
+use std::marker::Model;
 
+/// A script of more bytes is too long to be played.
 pub const MOST_BYTES: usize = 32_768;
 
+/// A script of more lines is too long to be played.
 pub const MOST_LINES: usize = 512;
 
 const NEWLINE: u8 = b'\n';
@@ -36,20 +39,37 @@ fn first_line(script: &[u8]) -> Option<(&[u8], &[u8])>
     Some((text, rest.unwrap_or(&[])))
 }
 
-// The lines of what is left of a script.
+/// The lines of a script that are still to come, without the bytes that end them.
 #[derive(Drop)]
-struct Lines<'a>(&'a [u8]);
+pub struct Lines<'a> {
+    rest: &'a [u8],
+}
+
+impl<'a> Model for Lines<'a> {
+    ghost Value = { List (List ℕ) };
+
+    ghost view = { λ s. lines s.rest.now };
+}
+
+impl<'a> Lines<'a> {
+    /// All lines of a script.
+    pub fn new(script: &'a [u8]) -> Lines<'a>
+        ensures { result ≡ lines script.now }
+    {
+        Lines { rest: script }
+    }
+}
 
 impl<'a> Iterator for Lines<'a> {
     type Item = &'a [u8];
 
-    ghost next_gives = { YieldsFirstRef (λ s. lines s.0.now) };
+    ghost next_gives = { YieldsFirstRef (λ s. s) };
 
-    ghost remaining = { item_count (λ s. lines s.0.now) };
+    ghost remaining = { item_count (λ s. s) };
 
     fn next(&mut self) -> Option<&'a [u8]> {
-        let (text, rest) = first_line(self.0)?;
-        self.0 = rest;
+        let (text, rest) = first_line(self.rest)?;
+        self.rest = rest;
         Some(text)
     }
 }
@@ -61,7 +81,7 @@ pub fn lines_within(script: &[u8]) -> Result<usize, TooLong>
     if script.len() > MOST_BYTES {
         return Err(TooLong);
     }
-    let count = Lines(script).count();
+    let count = Lines::new(script).count();
     if count > MOST_LINES {
         return Err(TooLong);
     }

@@ -1,17 +1,6 @@
 // Numbers as a script writes them: digits with no leading zero, and a minus sign exactly where one is negative.
 ghost use Rattle.std.specs.Prelude.{◌≡◌, ℕ, List, Option, Some};
-ghost use Rattle.calls.specs.Numbers.{NumbersReadBack, onward, no_leading_zero, natural_of, integer_of, minus};
-
-// There is a byte, and no zero in front of another.
-fn well_begun(text: &[u8]) -> bool
-    ensures { result ≡ no_leading_zero text.now }
-{
-    match text {
-        [] => false,
-        [_] => true,
-        [first, ..] => *first != b'0',
-    }
-}
+ghost use Rattle.calls.specs.Numbers.{NumbersReadBack, onward, natural_of, integer_of, minus};
 
 fn digits_value(text: &[u8]) -> Option<u32>
     ensures { result ≡ onward 0 text.now }
@@ -30,10 +19,10 @@ fn digits_value(text: &[u8]) -> Option<u32>
 pub fn natural(text: &[u8]) -> Option<u32>
     ensures { result ≡ natural_of text.now }
 {
-    if well_begun(text) {
-        digits_value(text)
-    } else {
-        None
+    match text {
+        // There is a byte, and no zero in front of another.
+        [] | [b'0', _, ..] => None,
+        _ => digits_value(text),
     }
 }
 

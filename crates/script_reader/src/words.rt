@@ -1,10 +1,11 @@
 // The words of a line. A line is cut at every single space, so a word may be empty.
-ghost use Rattle.std.specs.Prelude.{◌≡◌, ◌≤◌, IfSome, ◌==◌, length, slice_get};
+ghost use Rattle.std.specs.Prelude.{◌≡◌, ◌≤◌, List, IfSome, ◌==◌, length, slice_get};
 ghost use Rattle.std.specs.Option.{option_map, option_map_or};
 ghost use Rattle.std.specs.Iterator.{YieldsFirstBy, item_count};
-ghost use Rattle.script_reader.specs.Words.{words, words_left, piece, seen, is_name};
+ghost use Rattle.script_reader.specs.Words.{Word as WordOf, words, words_left, piece, seen, is_name};
 
 use crate::pieces::cut_at;
+use std::marker::Model;
 
 const SPACE: u8 = b' ';
 
@@ -48,17 +49,25 @@ impl<'a> Token<'a> {
     }
 }
 
-// The words of what is left of a line at its end, or none behind the last one.
+// The words of a line that are still to come.
 #[derive(Drop)]
 struct Words<'a> {
     line: &'a [u8],
+    // what is left of the line at its end, or none behind the last word
     rest: Option<&'a [u8]>,
-    ghost within: { option_map_or (λ r. length r.now) rest 0 ≤ length line.now },
+}
+
+impl<'a> Model for Words<'a> {
+    ghost Value = { List WordOf };
+
+    ghost view = { λ s. words_left s.line.now s.rest };
+
+    ghost invariant = { λ s. option_map_or (λ r. length r.now) s.rest 0 ≤ length s.line.now };
 }
 
 impl<'a> Words<'a> {
     fn new(line: &'a [u8]) -> Words<'a>
-        ensures { words_left result.line.now result.rest ≡ words line.now }
+        ensures { result ≡ words line.now }
     {
         Words {
             line,
@@ -70,9 +79,9 @@ impl<'a> Words<'a> {
 impl<'a> Iterator for Words<'a> {
     type Item = Word<'a>;
 
-    ghost next_gives = { YieldsFirstBy piece (λ s. words_left s.line.now s.rest) };
+    ghost next_gives = { YieldsFirstBy piece (λ s. s) };
 
-    ghost remaining = { item_count (λ s. words_left s.line.now s.rest) };
+    ghost remaining = { item_count (λ s. s) };
 
     fn next(&mut self) -> Option<Word<'a>> {
         let rest = self.rest?;
