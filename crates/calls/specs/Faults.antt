@@ -1,5 +1,5 @@
 -- What is wrong with a line.
-use Rattle.std.specs.Prelude.{ℕ, Ok, Err, Result}
+use Rattle.std.specs.Prelude.{ℕ}
 use Rattle.calls.specs.declared.faults.Position.{Position}
 use Rattle.calls.specs.declared.faults.WordFault.{WordFault}
 use Rattle.calls.specs.declared.faults.LineFault.{LineFault}
@@ -36,13 +36,3 @@ fault_number (Number f) = 10
 abbrev pub fault_position : LineFault → Position
 fault_position (Words at) = at
 fault_position (Number f) = f.at
-
--- the first fault counts; where there is none, f goes on with the value
-abbrev pub then : {X Y E : Type 0} → Result X E → (X → Result Y E) → Result Y E
-then (Ok x) f = f x
-then (Err e) f = Err e
-
--- the same result with its fault carried up
-abbrev pub raised : {X E F : Type 0} → (E → F) → Result X E → Result X F
-raised up (Ok x) = Ok x
-raised up (Err e) = Err (up e)

@@ -2,7 +2,7 @@
 use crate::failure::Failure;
 use crate::sets::Choice;
 use crate::space::Space;
-use script::{LINE_ROOM, line_at, lines_within, read, write_answer, write_fault};
+use script::{LINE_ROOM, TooLong, line_at, lines_within, read, write_answer, write_fault};
 use std::alloc::Global;
 use thiserror::Error;
 
@@ -10,8 +10,8 @@ use thiserror::Error;
 #[derive(Clone, Copy, Debug, Error)]
 pub enum PlayError {
     /// The script is refused as a whole.
-    #[error("refused 11: the script has more than 32,768 bytes or 512 lines")]
-    TooLong,
+    #[error(transparent)]
+    TooLong(#[from] TooLong),
     /// The player could not go on.
     #[error("stopped: {0}")]
     Stopped(#[from] Failure),
@@ -36,7 +36,7 @@ impl<'a> Iterator for Lines<'a> {
 
 /// The output of a script. A fault of the reader is told in the last line, after which nothing is played.
 pub fn play(heap: Global, script: &[u8], choice: Choice) -> Result<Vec<u8>, PlayError> {
-    let lines = lines_within(script).ok_or(PlayError::TooLong)?;
+    let lines = lines_within(script)?;
     Ok(play_lines(heap, script, lines, choice)?)
 }
 

@@ -40,7 +40,7 @@ pub fn plays_text(
 
 pub fn is_refused(heap: Global, script: &str) -> Result<(), Fail> {
     match play(heap, script.as_bytes(), Choice::Slots) {
-        Err(PlayError::TooLong) => Ok(()),
+        Err(PlayError::TooLong(_)) => Ok(()),
         _ => Err(Fail::new("the script is not refused")),
     }
 }

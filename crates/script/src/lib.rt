@@ -1,6 +1,8 @@
 // The text of a script: its lines, the words of a line, the call that a line asks for, and the line that answers it.
 #![tactic(auto)]
 
-pub use calls::{Answer, Call, Freed, LineFault, PlayerFault, Refusal, Report, Usage, WordFault};
-pub use script_reader::{Line, line_at, lines_within, read};
+pub use calls::{
+    Answer, Call, Freed, LineFault, PlayerFault, Position, Refusal, Report, Usage, WordFault,
+};
+pub use script_reader::{Line, TooLong, line_at, lines_within, read};
 pub use script_writer::{LINE_ROOM, write_answer, write_fault};

@@ -1,3 +1,3 @@
+pub mod Spelling
 pub mod Cuts
-pub mod Numerals
 pub mod Examples

@@ -1,21 +1,18 @@
 -- A script's lines.
-use Rattle.std.specs.Prelude.{◌≡◌, ℕ, suc, ◌+◌, ◌<◌, ◌≤◌, min, Bool, true, false, cond, ◌&&◌, List, [], ◌∷◌, length, drop, Some, None, Option, ◌==◌, nat_le}
+use Rattle.std.specs.Prelude.{◌≡◌, ℕ, ◌+◌, ◌<◌, ◌≤◌, min, Bool, cond, ◌&&◌, List, [], ◌∷◌, length, drop, Some, None, Option, ◌==◌, nat_le}
+use Rattle.std.specs.Borrow.{Bor}
+use Rattle.std.specs.List.{onto_first, slice_split, before_first, after_first}
+use Rattle.std.specs.Option.{option_map_or}
 use Rattle.script_reader.specs.declared.lines.Line.{Line}
 
--- b in front of the first of these pieces
-abbrev pub onto : ℕ → List (List ℕ) → List (List ℕ)
-onto b [] = (b ∷ []) ∷ []
-onto b (p ∷ ps) = (b ∷ p) ∷ ps
-
--- a byte that ends a piece leaves an empty one before these, and any other byte goes in front of the first
-abbrev pub parted : Bool → ℕ → List (List ℕ) → List (List ℕ)
-parted true b ps = [] ∷ ps
-parted false b ps = onto b ps
+-- whether b is the byte c
+abbrev pub is_byte : ℕ → ℕ → Bool
+is_byte c b = b == c
 
 -- the lines of a script, without the byte 10 that ends each; the last may lack it, but is then not empty
 abbrev pub lines : List ℕ → List (List ℕ)
 lines [] = []
-lines (b ∷ bs) = parted (b == 10) b (lines bs)
+lines (b ∷ bs) = cond (is_byte 10 b) ([] ∷ lines bs) (onto_first b (lines bs))
 
 -- the number of lines of a script of at most 32,768 bytes and 512 lines, none of a larger one
 abbrev pub lines_within : List ℕ → Option ℕ
@@ -32,7 +29,14 @@ abbrev pub LineAt : List ℕ → ℕ → Option Line → Type 0
 LineAt script start None = length script ≤ start
 LineAt script start (Some l) = BeginsLine script start l
 
--- how many bytes stand before the first byte that equals stop
-abbrev pub reach : ℕ → List ℕ → ℕ
-reach stop [] = 0
-reach stop (b ∷ bs) = cond (b == stop) 0 (suc (reach stop bs))
+-- the bytes are cut at the first byte stop into what stands before it and what stands behind it, if it is there
+pub record CutsAt (stop : ℕ) (bytes before : List ℕ) (behind : Option (Bor (List ℕ))) : Type 0 where
+  pub first : before ≡ before_first (is_byte stop) bytes
+  pub others : option_map_or (λ rest. rest.now) behind [] ≡ after_first (is_byte stop) bytes
+  pub pieces : slice_split (is_byte stop) bytes ≡ before ∷ option_map_or (λ rest. slice_split (is_byte stop) rest.now) behind []
+  pub whole : length bytes ≡ length before + option_map_or (λ rest. length rest.now + 1) behind 0
+
+-- a script that is not empty is cut into its first line and what stands behind the byte that ends it
+abbrev pub CutsLine : List ℕ → Option (Bor (List ℕ) × Bor (List ℕ)) → Type 0
+CutsLine script None = script ≡ []
+CutsLine script (Some l) = (0 < length script) × (lines script ≡ l.0.now ∷ lines l.1.now) × (l.1.now ≡ drop (length l.0.now + 1) script)

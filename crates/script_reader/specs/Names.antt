@@ -2,6 +2,7 @@
 use Rattle.std.specs.Prelude.{ℕ, cond, List, Some, None, codes, Option}
 use Rattle.std.specs.Str.{bytes_eq}
 use Rattle.script_reader.specs.declared.names.Name.{Name}
+use Rattle.script_reader.specs.declared.names.NamesNoCall.{NamesNoCall}
 use Rattle.script_reader.specs.declared.names.Name.TheVariants.{Make, Link, Follow, Drop, Put, Lift, Get, Same, Step, Tally}
 
 -- the call that a word names
@@ -17,6 +18,10 @@ called w =
     (cond (bytes_eq w (codes "same")) (Some Same)
     (cond (bytes_eq w (codes "step")) (Some Step)
     (cond (bytes_eq w (codes "tally")) (Some Tally) None)))))))))
+
+-- why a word that names no call is no name
+abbrev pub names_no_call : NamesNoCall
+names_no_call = record {}
 
 -- how many numbers stand behind a call's name
 abbrev pub count_of : Name → ℕ

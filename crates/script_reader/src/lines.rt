@@ -1,69 +1,102 @@
 // A script's lines. Each ends in byte 10; the last may lack it, but is then not empty.
-ghost use Rattle.std.specs.Prelude.{◌≡◌, ◌<◌, length};
-ghost use Rattle.script_reader.specs.Lines.{lines, lines_within, BeginsLine, LineAt};
+ghost use Rattle.std.specs.Prelude.{◌≡◌, ℕ, List};
+ghost use Rattle.std.specs.Result.{result_ok};
+ghost use Rattle.std.specs.Iterator.{YieldsFirstRef, item_count};
+ghost use Rattle.script_reader.specs.Lines.{lines, lines_within, LineAt, CutsLine};
 
-use crate::pieces::piece_end;
+use crate::pieces::cut_at;
+use std::marker::Model;
+use thiserror::Error;
 
+/// A script of more bytes is too long to be played.
 pub const MOST_BYTES: usize = 32_768;
 
+/// A script of more lines is too long to be played.
 pub const MOST_LINES: usize = 512;
 
-const NEWLINE: u8 = 10;
+const NEWLINE: u8 = b'\n';
 
-#[derive(Clone, Copy)]
+/// A line of a script.
+#[derive(Clone, Copy, PartialEq, Eq, Debug)]
 pub struct Line<'a> {
+    /// The line without the byte that ends it.
     pub text: &'a [u8],
-    // where the next line begins
+    /// Where the next line begins.
     pub next: usize,
 }
 
-// A line is counted as its first byte comes.
-fn line_count(script: &[u8]) -> usize
-    ensures { result ≡ length (lines script.now) }
-{
-    let mut count = 0;
-    let mut inside = false;
-    for byte in script {
-        if !inside {
-            count += 1;
-        }
-        inside = *byte != NEWLINE;
-    }
-    count
-}
+/// A script has more than `MOST_BYTES` bytes or `MOST_LINES` lines.
+#[derive(Clone, Copy, PartialEq, Eq, Debug, Error)]
+#[error("refused 11: the script has more than 32,768 bytes or 512 lines")]
+pub struct TooLong;
 
-// How many lines a script has, or none if it is too long to be played.
-pub fn lines_within(script: &[u8]) -> Option<usize>
-    ensures { result ≡ lines_within script.now }
+// The first line, and what stands behind the byte that ends it.
+fn first_line(script: &[u8]) -> Option<(&[u8], &[u8])>
+    ensures { CutsLine script.now result }
 {
-    if script.len() > MOST_BYTES {
+    if script.is_empty() {
         return None;
     }
-    let count = line_count(script);
-    if count > MOST_LINES {
-        None
-    } else {
-        Some(count)
+    let (text, rest) = cut_at(script, NEWLINE);
+    Some((text, rest.unwrap_or(&[])))
+}
+
+/// The lines of a script that are still to come, without the bytes that end them.
+#[derive(Drop)]
+pub struct Lines<'a> {
+    rest: &'a [u8],
+}
+
+impl<'a> Model for Lines<'a> {
+    ghost Value = { List (List ℕ) };
+
+    ghost view = { λ s. lines s.rest.now };
+}
+
+impl<'a> Lines<'a> {
+    /// All lines of a script.
+    pub fn new(script: &'a [u8]) -> Lines<'a>
+        ensures { result ≡ lines script.now }
+    {
+        Lines { rest: script }
     }
 }
 
-fn first_line<'a>(script: &'a [u8], start: usize) -> Line<'a>
-    requires { start < length script.now }
-    ensures { BeginsLine script.now start result }
-{
-    let end = piece_end(script, start, NEWLINE);
-    let text = &script[start..end];
-    let next = if end < script.len() { end + 1 } else { end };
-    Line { text, next }
+impl<'a> Iterator for Lines<'a> {
+    type Item = &'a [u8];
+
+    ghost next_gives = { YieldsFirstRef (λ s. s) };
+
+    ghost remaining = { item_count (λ s. s) };
+
+    fn next(&mut self) -> Option<&'a [u8]> {
+        let (text, rest) = first_line(self.rest)?;
+        self.rest = rest;
+        Some(text)
+    }
 }
 
-// The line that begins at `start`, or none behind the last one.
+/// How many lines a script has.
+pub fn lines_within(script: &[u8]) -> Result<usize, TooLong>
+    ensures { result_ok result ≡ lines_within script.now }
+{
+    if script.len() > MOST_BYTES {
+        return Err(TooLong);
+    }
+    let count = Lines::new(script).count();
+    if count > MOST_LINES {
+        return Err(TooLong);
+    }
+    Ok(count)
+}
+
+/// The line that begins at `start`, or none behind the last one.
 pub fn line_at<'a>(script: &'a [u8], start: usize) -> Option<Line<'a>>
     ensures { LineAt script.now start result }
 {
-    if start < script.len() {
-        Some(first_line(script, start))
-    } else {
-        None
-    }
+    let (text, rest) = first_line(script.get(start..)?)?;
+    Some(Line {
+        text,
+        next: script.len() - rest.len(),
+    })
 }

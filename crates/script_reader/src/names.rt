@@ -1,9 +1,10 @@
 // The calls' names, and how many numbers stand behind each.
 ghost use Rattle.std.specs.Prelude.{◌≡◌};
-ghost use Rattle.std.specs.Str.{bytes_eq};
-ghost use Rattle.script_reader.specs.Names.{called, count_of};
+ghost use Rattle.std.specs.Option.{ok_or};
+ghost use Rattle.script_reader.specs.Names.{called, count_of, names_no_call};
 
-#[derive(Clone, Copy)]
+/// What a line asks for, by its first word.
+#[derive(Clone, Copy, PartialEq, Eq, Debug)]
 pub enum Name {
     Make,
     Link,
@@ -17,41 +18,35 @@ pub enum Name {
     Tally,
 }
 
-fn spells(text: &[u8], name: &[u8]) -> bool
-    ensures { result ≡ bytes_eq text.now name.now }
-{
-    text == name
+/// The word is the name of no call.
+#[derive(Clone, Copy, PartialEq, Eq, Debug)]
+pub struct NamesNoCall;
+
+impl<'a> TryFrom<&'a [u8]> for Name {
+    type Error = NamesNoCall;
+
+    ghost try_from_gives = { λ text named. named ≡ ok_or (called text.now) names_no_call };
+
+    #[tactic(auto, using(crate::proofs::Spelling::called_follow))]
+    fn try_from(text: &'a [u8]) -> Result<Name, NamesNoCall> {
+        match text {
+            b"make" => Ok(Name::Make),
+            b"link" => Ok(Name::Link),
+            b"follow" => Ok(Name::Follow),
+            b"drop" => Ok(Name::Drop),
+            b"put" => Ok(Name::Put),
+            b"lift" => Ok(Name::Lift),
+            b"get" => Ok(Name::Get),
+            b"same" => Ok(Name::Same),
+            b"step" => Ok(Name::Step),
+            b"tally" => Ok(Name::Tally),
+            _ => Err(NamesNoCall),
+        }
+    }
 }
 
 impl Name {
-    pub fn of(text: &[u8]) -> Option<Name>
-        ensures { result ≡ called text.now }
-    {
-        if spells(text, b"make") {
-            Some(Name::Make)
-        } else if spells(text, b"link") {
-            Some(Name::Link)
-        } else if spells(text, b"follow") {
-            Some(Name::Follow)
-        } else if spells(text, b"drop") {
-            Some(Name::Drop)
-        } else if spells(text, b"put") {
-            Some(Name::Put)
-        } else if spells(text, b"lift") {
-            Some(Name::Lift)
-        } else if spells(text, b"get") {
-            Some(Name::Get)
-        } else if spells(text, b"same") {
-            Some(Name::Same)
-        } else if spells(text, b"step") {
-            Some(Name::Step)
-        } else if spells(text, b"tally") {
-            Some(Name::Tally)
-        } else {
-            None
-        }
-    }
-
+    /// How many numbers stand behind the name.
     pub fn numbers(self) -> usize
         ensures { result ≡ count_of self }
     {

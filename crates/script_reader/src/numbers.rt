@@ -1,77 +1,79 @@
 // Numbers as a script writes them: digits with no leading zero, and a minus sign exactly where one is negative.
-ghost use Rattle.std.specs.Prelude.{◌≡◌, Some};
-ghost use Rattle.calls.specs.Numbers.{NumbersReadBack, onward, no_leading_zero, natural_of, integer_of, plus, minus};
-
-// There is a byte, and no zero in front of another.
-fn well_begun(text: &[u8]) -> bool
-    ensures { result ≡ no_leading_zero text.now }
-{
-    match text {
-        [] => false,
-        [_] => true,
-        [first, ..] => *first != b'0',
-    }
-}
+ghost use Rattle.std.specs.Prelude.{◌≡◌, ℕ, List, Option, Some};
+ghost use Rattle.calls.specs.Numbers.{NumbersReadBack, onward, natural_of, integer_of, minus};
 
 fn digits_value(text: &[u8]) -> Option<u32>
     ensures { result ≡ onward 0 text.now }
 {
-    let mut value: u64 = 0;
+    let mut value: u32 = 0;
     for byte in text {
-        if *byte < b'0' || *byte > b'9' {
+        if !byte.is_ascii_digit() {
             return None;
         }
-        value = value * 10 + (*byte - b'0') as u64;
-        if value > 4_294_967_295 {
-            return None;
-        }
+        value = value.checked_mul(10)?.checked_add(u32::from(*byte - b'0'))?;
     }
-    Some(value as u32)
+    Some(value)
 }
 
-// The number that the digits of `text` write, up to 4,294,967,295.
+/// The number that the digits of `text` write, up to 4,294,967,295.
 pub fn natural(text: &[u8]) -> Option<u32>
     ensures { result ≡ natural_of text.now }
 {
-    if well_begun(text) {
-        digits_value(text)
-    } else {
-        None
+    match text {
+        // There is a byte, and no zero in front of another.
+        [] | [b'0', _, ..] => None,
+        _ => digits_value(text),
     }
 }
 
-// The number that `text` writes, from -2,147,483,648 to 2,147,483,647.
+/// The number that `text` writes, from -2,147,483,648 to 2,147,483,647.
 pub fn integer(text: &[u8]) -> Option<i32>
     ensures { result ≡ integer_of text.now }
 {
     match text {
         [b'-', digits @ ..] => negative(natural(digits)?),
-        _ => positive(natural(text)?),
+        _ => i32::try_from(natural(text)?).ok(),
     }
 }
 
-fn positive(size: u32) -> Option<i32>
-    ensures { result ≡ plus (Some size) }
-{
-    if size > 2_147_483_647 {
-        None
-    } else {
-        Some(size as i32)
-    }
-}
-
+// There is no minus sign before 0.
 fn negative(size: u32) -> Option<i32>
     ensures { result ≡ minus (Some size) }
 {
-    if size == 0 || size > 2_147_483_648 {
+    if size == 0 {
         None
     } else {
-        Some((-(size as i64)) as i32)
+        i32::try_from(-i64::from(size)).ok()
     }
 }
 
-// Reading and writing fit: each number in range is read from its digits, after a minus sign if it is negative, and from
-// no other bytes.
+/// A type of numbers that a word of a script can write.
+pub(crate) trait Numeral: Sized {
+    ghost written: { List ℕ → Option Self };
+
+    // The number that `text` writes.
+    fn read(text: &[u8]) -> Option<Self>
+        ensures { result ≡ written text.now };
+}
+
+impl Numeral for u32 {
+    ghost written = { natural_of };
+
+    fn read(text: &[u8]) -> Option<u32> {
+        natural(text)
+    }
+}
+
+impl Numeral for i32 {
+    ghost written = { integer_of };
+
+    fn read(text: &[u8]) -> Option<i32> {
+        integer(text)
+    }
+}
+
+/// Reading and writing fit: each number in range is read from its digits, after a minus sign if it is negative, and
+/// from no other bytes.
 pub fn numbers_are_read_back()
     ensures { NumbersReadBack }
 {}

@@ -1,55 +1,40 @@
 // Where the lines of a script begin and end.
-use script::{line_at, lines_within};
+use script::{Line, TooLong, line_at, lines_within};
 use std::process::Abort;
-use std::test::Fail;
 
-fn counts(rt: &impl Abort, script: &[u8], wanted: Option<usize>) {
+fn counts(rt: &impl Abort, script: &[u8], wanted: Result<usize, TooLong>) {
     assert_eq!(rt; lines_within(script), wanted);
 }
 
 #[test]
 fn lines_are_counted(rt: HostRuntime) {
-    counts(&rt, b"", Some(0));
-    counts(&rt, b"\n", Some(1));
-    counts(&rt, b"step", Some(1));
-    counts(&rt, b"step\n", Some(1));
-    counts(&rt, b"step\n\n", Some(2));
-    counts(&rt, b"step\ntally", Some(2));
+    counts(&rt, b"", Ok(0));
+    counts(&rt, b"\n", Ok(1));
+    counts(&rt, b"step", Ok(1));
+    counts(&rt, b"step\n", Ok(1));
+    counts(&rt, b"step\n\n", Ok(2));
+    counts(&rt, b"step\ntally", Ok(2));
 }
 
 #[test]
 fn a_script_has_limits(rt: HostRuntime) {
-    counts(&rt, &[10; 512], Some(512));
-    counts(&rt, &[10; 513], None);
-    counts(&rt, &[65; 32_768], Some(1));
-    counts(&rt, &[65; 32_769], None);
+    counts(&rt, &[10; 512], Ok(512));
+    counts(&rt, &[10; 513], Err(TooLong));
+    counts(&rt, &[65; 32_768], Ok(1));
+    counts(&rt, &[65; 32_769], Err(TooLong));
 }
 
-fn cuts(
-    rt: &impl Abort,
-    script: &[u8],
-    start: usize,
-    text: &[u8],
-    next: usize,
-) -> Result<(), Fail> {
-    match line_at(script, start) {
-        Some(line) => {
-            assert!(rt; line.text == text);
-            assert_eq!(rt; line.next, next);
-            Ok(())
-        }
-        None => Err(Fail::new("no line begins there")),
-    }
+fn cuts(rt: &impl Abort, script: &[u8], start: usize, text: &[u8], next: usize) {
+    assert_eq!(rt; line_at(script, start), Some(Line { text, next }));
 }
 
 #[test]
-fn line_after_line(rt: HostRuntime) -> Result<(), Fail> {
+fn line_after_line(rt: HostRuntime) {
     let script = b"step\n\ntally";
-    cuts(&rt, script, 0, b"step", 5)?;
-    cuts(&rt, script, 5, b"", 6)?;
-    cuts(&rt, script, 6, b"tally", 11)?;
-    assert!(rt; line_at(script, 11).is_none());
-    assert!(rt; line_at(b"step\n", 5).is_none());
-    assert!(rt; line_at(b"", 0).is_none());
-    Ok(())
+    cuts(&rt, script, 0, b"step", 5);
+    cuts(&rt, script, 5, b"", 6);
+    cuts(&rt, script, 6, b"tally", 11);
+    assert_eq!(rt; line_at(script, 11), None);
+    assert_eq!(rt; line_at(b"step\n", 5), None);
+    assert_eq!(rt; line_at(b"", 0), None);
 }

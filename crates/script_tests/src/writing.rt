@@ -1,6 +1,6 @@
 // The line that stands for an answer or a fault, and what is left alone round it.
 use script::{
-    Answer, Freed, LineFault, PlayerFault, Refusal, Report, Usage, write_answer, write_fault,
+    Answer, Freed, LineFault, PlayerFault, Position, Refusal, Report, Usage, write_answer, write_fault,
 };
 use std::process::Abort;
 
@@ -84,7 +84,7 @@ fn long_answers(rt: HostRuntime) {
 
 #[test]
 fn a_fault(rt: HostRuntime) {
-    let fault = PlayerFault::Reader(LineFault::Words { line: 4, place: 8 });
+    let fault = PlayerFault::Reader(LineFault::Words(Position { line: 4, place: 8 }));
     let mut out = [7u8; 80];
     let end = write_fault(&mut out, START, &fault);
     stands(&rt, &out, end, b"reader 9 line 4 at 8\n");
