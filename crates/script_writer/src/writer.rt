@@ -3,10 +3,9 @@ ghost use Rattle.std.specs.Prelude.{◌≡◌, ◌<◌, ◌≤◌, [], ◌∷◌
 ghost use Rattle.script_writer.specs.Writer.{freed_word, answer_line, fault_line, WritesLine};
 ghost use Rattle.script_writer.specs.declared.line.TheConstants.{LINE_ROOM};
 
+pub use crate::line::LINE_ROOM;
 use crate::line::Line;
 use calls::{Answer, Freed, PlayerFault};
-
-pub use crate::line::LINE_ROOM;
 
 fn freed_name(kind: Freed) -> &'static str
     ensures word { result.now ≡ freed_word kind }
