@@ -10,7 +10,7 @@ use std::marker::Model;
 /// How many bytes stand free where a line is written; no line has more, byte 10 included.
 pub const LINE_ROOM: usize = 64;
 
-// Each method adds to the end. The line is copied once, since a buffer that is lent through every call reads worse.
+// The bytes of a line so far. Parts go to its end, and it is copied to its place once, when it is whole.
 #[derive(Drop)]
 pub struct Line {
     text: ArrayString<LINE_ROOM>,
