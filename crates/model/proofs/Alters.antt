@@ -1,8 +1,9 @@
 -- A changed reference or data word moves no object and changes no size.
 use Rattle.std.proofs.Common.{◌≡◌, ℕ, zero, suc, Bool, true, false, cond, eqb, List, [], ◌∷◌, ◌++◌, length, get_or, set, Some, None, Option, sym, refl, ap, ◌∙◌, ap₂, arith, length-set}
+use Rattle.std.specs.List.{AllByRecursion}
 use Rattle.model.specs.Bodies.{Body, size, with_ref, with_value}
 use Rattle.model.specs.Trains.{Obj, Train, Trains, train_objects, objects, total, obj_size, words_of, times, is, alter_object, alter_objects, alter_train, alter}
-use Rattle.model.specs.Sound.{All, Filled, AllFilled, Standing, first_objects}
+use Rattle.model.specs.Sound.{Filled, first_objects, HasCars}
 
 pub ref_size : (i : ℕ) (h : Option ℕ) (b : Body) → size (with_ref i h b) ≡ size b
 ref_size i h b = omega (arith, length-set b.refs i h)
@@ -38,7 +39,7 @@ module _ (x : ℕ) (g : Body → Body) where
   pub alter-times : (y : ℕ) (os : List Obj) → times y (alter_objects x g os) ≡ times y os
   alter-times y = alter-total (is y) (λ o. refl)
 
-  pub alter_all : (P Q : Obj → Type 0) → ((o : Obj) → P o → Q (alter_object x g o)) → (os : List Obj) → All P os → All Q (alter_objects x g os)
+  pub alter_all : (P Q : Obj → Type 0) → ((o : Obj) → P o → Q (alter_object x g o)) → (os : List Obj) → AllByRecursion P os → AllByRecursion Q (alter_objects x g os)
   alter_all P Q h [] a = tt
   alter_all P Q h (o ∷ os) a = (h o a.0, alter_all P Q h os a.1)
 
@@ -59,7 +60,7 @@ module _ (x : ℕ) (g : Body → Body) where
     filled_alter (c ∷ d ∷ cs) h =
         (omega (arith, alter-words c.objects, h.0), omega (arith, alter-words c.objects, h.1), filled_alter (d ∷ cs) h.2)
 
-    pub all_filled_alter : (ts : Trains) → AllFilled ts → AllFilled (alter x g ts)
+    pub all_filled_alter : (ts : Trains) → AllByRecursion Filled ts → AllByRecursion Filled (alter x g ts)
     all_filled_alter [] h = tt
     all_filled_alter (t ∷ ts) h = (filled_alter t h.0, all_filled_alter ts h.1)
 
@@ -67,7 +68,7 @@ module _ (x : ℕ) (g : Body → Body) where
   length_train [] = refl
   length_train (c ∷ cs) = omega (arith, length_train cs)
 
-  pub standing_alter : (ts : Trains) → Standing ts → Standing (alter x g ts)
+  pub standing_alter : (ts : Trains) → AllByRecursion HasCars ts → AllByRecursion HasCars (alter x g ts)
   standing_alter [] h = tt
   standing_alter (t ∷ ts) h = (omega (arith, length_train t, h.0), standing_alter ts h.1)
 

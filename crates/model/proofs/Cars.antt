@@ -2,6 +2,7 @@
 use Rattle.std.proofs.Common.{◌≡◌, ℕ, zero, suc, ◌+◌, ◌*◌, ◌<◌, ◌≤◌, Bool, true, false, ◌&&◌, ltb, leb, List, [], ◌∷◌, ◌++◌, length, take, None, Option, refl, arith, length-append}
 use lib.ListN.{length-replicate}
 use Rattle.std.proofs.lemmas.Bool.{leb-true, leb-false, ltb-true, and_parts}
+use Rattle.std.specs.List.{AllByRecursion}
 use Rattle.layout.specs.Meaning.{Meaning, Lawful}
 use Rattle.model.specs.Bodies.{fresh, size}
 use Rattle.model.specs.Trains.{Obj, Car, Train, Trains, train_objects, objects, total, obj_size, words_of, words_in_use, cars_in_use, car_numbers, numbers, place, place_at, fits, with_object, opened, lowest_free, last_cars, arrival, arrival_by, most_trains, car_words}
@@ -9,9 +10,9 @@ use Rattle.model.specs.Claims.{Wish, Claim, Carried, claims}
 use Rattle.model.specs.Step.{claimed, copied_of, place_all, trim}
 use Rattle.model.specs.Space.{Model, carried}
 use Rattle.model.specs.Laws.{moment, FreeCar}
-use Rattle.model.specs.Sound.{All, Sized, Filled, AllFilled, Standing}
+use Rattle.model.specs.Sound.{Sized, Filled, HasCars}
 use Rattle.model.proofs.Totals.{total-++, claims-total, place_all-total}
-use Rattle.model.proofs.Alls.{claims_all, claimed_all_take}
+use Rattle.model.proofs.Alls.{claims_all, claimed_all_take, all_take}
 use Rattle.model.proofs.Distinct.{lowest_unused}
 
 -- Cars stay filled.
@@ -47,43 +48,43 @@ filled_place n o (c ∷ []) s p = go (fits c o) refl
         (omega arith, p.1, (omega arith, omega arith))
 filled_place n o (c ∷ d ∷ cs) s p = filled_cons c (place n o (d ∷ cs)) (place_stands n o (d ∷ cs)) p.0 p.1 (filled_place n o (d ∷ cs) s p.2)
 
-pub filled_place_at : (k n : ℕ) (o : Obj) (ts : Trains) → Sized o → AllFilled ts → AllFilled (place_at k n o ts)
+pub filled_place_at : (k n : ℕ) (o : Obj) (ts : Trains) → Sized o → AllByRecursion Filled ts → AllByRecursion Filled (place_at k n o ts)
 filled_place_at k n o [] s p = (filled_place n o [] s tt, tt)
 filled_place_at zero n o (t ∷ ts) s p = (filled_place n o t s p.0, p.1)
 filled_place_at (suc k) n o (t ∷ ts) s p = (p.0, filled_place_at k n o ts s p.1)
 
-pub filled_place_all : (busy : List ℕ) (row : List Claim) (ts : Trains) → All Sized (claimed row) → AllFilled ts → AllFilled (place_all busy row ts)
+pub filled_place_all : (busy : List ℕ) (row : List Claim) (ts : Trains) → AllByRecursion Sized (claimed row) → AllByRecursion Filled ts → AllByRecursion Filled (place_all busy row ts)
 filled_place_all busy [] ts s p = p
 filled_place_all busy (c ∷ row) ts s p =
     let n = lowest_free (busy ++ numbers ts) in
     filled_place_all busy row (place_at c.rank n c.object ts) s.1 (filled_place_at c.rank n c.object ts s.0 p)
 
-pub filled_trim : (ts : Trains) → AllFilled ts → AllFilled (trim ts)
+pub filled_trim : (ts : Trains) → AllByRecursion Filled ts → AllByRecursion Filled (trim ts)
 filled_trim [] p = p
 filled_trim ([] ∷ ts) p = p.1
 filled_trim ((c ∷ cs) ∷ ts) p = p
 
 -- Trains have cars.
 
-pub standing_place_at : (k n : ℕ) (o : Obj) (ts : Trains) → Standing ts → Standing (place_at k n o ts)
+pub standing_place_at : (k n : ℕ) (o : Obj) (ts : Trains) → AllByRecursion HasCars ts → AllByRecursion HasCars (place_at k n o ts)
 standing_place_at k n o [] s = (place_stands n o [], tt)
 standing_place_at zero n o (t ∷ ts) s = (place_stands n o t, s.1)
 standing_place_at (suc k) n o (t ∷ ts) s = (s.0, standing_place_at k n o ts s.1)
 
-pub standing_place_all : (busy : List ℕ) (row : List Claim) (ts : Trains) → Standing ts → Standing (place_all busy row ts)
+pub standing_place_all : (busy : List ℕ) (row : List Claim) (ts : Trains) → AllByRecursion HasCars ts → AllByRecursion HasCars (place_all busy row ts)
 standing_place_all busy [] ts s = s
 standing_place_all busy (c ∷ row) ts s =
     let n = lowest_free (busy ++ numbers ts) in
     standing_place_all busy row (place_at c.rank n c.object ts) (standing_place_at c.rank n c.object ts s)
 
 -- only the first train may have been without cars
-pub standing_trim_all : (busy : List ℕ) (row : List Claim) (cs : Train) (ts : Trains) → Standing ts → Standing (trim (place_all busy row (cs ∷ ts)))
+pub standing_trim_all : (busy : List ℕ) (row : List Claim) (cs : Train) (ts : Trains) → AllByRecursion HasCars ts → AllByRecursion HasCars (trim (place_all busy row (cs ∷ ts)))
 standing_trim_all busy [] [] ts s = s
 standing_trim_all busy [] (c ∷ cs) ts s = (omega arith, s)
 standing_trim_all busy (c ∷ row) cs ts s = go c.rank (λ ds us. standing_trim_all busy row ds us)
   where
-    go : (k : ℕ) → ((ds : Train) (us : Trains) → Standing us → Standing (trim (place_all busy row (ds ∷ us))))
-        → Standing (trim (place_all busy row (place_at k (lowest_free (busy ++ numbers (cs ∷ ts))) c.object (cs ∷ ts))))
+    go : (k : ℕ) → ((ds : Train) (us : Trains) → AllByRecursion HasCars us → AllByRecursion HasCars (trim (place_all busy row (ds ∷ us))))
+        → AllByRecursion HasCars (trim (place_all busy row (place_at k (lowest_free (busy ++ numbers (cs ∷ ts))) c.object (cs ∷ ts))))
     go zero more = more (place (lowest_free (busy ++ numbers (cs ∷ ts))) c.object cs) ts s
     go (suc k) more =
         let n = lowest_free (busy ++ numbers (cs ∷ ts)) in
@@ -107,13 +108,7 @@ pub length-place_at : (k n : ℕ) (o : Obj) (ts : Trains) → k < most_trains �
 length-place_at k n o ts h l = (more_trains k n o ts, trains_up_to most_trains k n o ts h l)
 
 abbrev pub RanksBelow : List Claim → Type 0
-RanksBelow [] = Unit {0}
-RanksBelow (c ∷ row) = (c.rank < most_trains) × RanksBelow row
-
-pub ranks_take : (n : ℕ) (row : List Claim) → RanksBelow row → RanksBelow (take n row)
-ranks_take zero row r = tt
-ranks_take (suc n) [] r = tt
-ranks_take (suc n) (c ∷ row) r = (r.0, ranks_take n row r.1)
+RanksBelow row = AllByRecursion (λ c. c.rank < most_trains) row
 
 pub length-place_all : (busy : List ℕ) (row : List Claim) (ts : Trains) → RanksBelow row → length ts ≤ most_trains
     → (length ts ≤ length (place_all busy row ts)) × (length (place_all busy row ts) ≤ most_trains)
@@ -148,11 +143,11 @@ train_by_words [] p = omega arith
 train_by_words (c ∷ []) p = omega arith
 train_by_words (c ∷ d ∷ cs) p = omega (arith, p.0, total-++ obj_size c.objects (train_objects (d ∷ cs)), train_by_words (d ∷ cs) p.2)
 
-pub cars_by_words : (ts : Trains) → AllFilled ts → 65 * cars_in_use ts ≤ words_in_use ts + 65 * length ts
+pub cars_by_words : (ts : Trains) → AllByRecursion Filled ts → 65 * cars_in_use ts ≤ words_in_use ts + 65 * length ts
 cars_by_words [] p = omega arith
 cars_by_words (t ∷ ts) p = omega (arith, total-++ obj_size (train_objects t) (objects ts), train_by_words t p.0, cars_by_words ts p.1)
 
-pub few_cars : (ts : Trains) → AllFilled ts → words_in_use ts ≤ 3072 → length ts ≤ 8 → cars_in_use ts ≤ 55
+pub few_cars : (ts : Trains) → AllByRecursion Filled ts → words_in_use ts ≤ 3072 → length ts ≤ 8 → cars_in_use ts ≤ 55
 few_cars ts p w l = omega (arith, cars_by_words ts p)
 
 length-car_numbers : (t : Train) → length (car_numbers t) ≡ length t
@@ -180,8 +175,8 @@ total-take g (suc n) (c ∷ row) = omega (arith, total-take g n row)
 
 -- the cars while a row is placed, the first car not counted
 pub few_placed : (busy : List ℕ) (row : List Claim) (f : Car) (cs : Train) (ts : Trains)
-    → AllFilled ((f ∷ cs) ∷ ts) → words_in_use ((f ∷ cs) ∷ ts) ≤ 3072 → length ((f ∷ cs) ∷ ts) ≤ 8
-    → All Sized (claimed row) → RanksBelow row → words_of (claimed row) ≤ words_of f.objects
+    → AllByRecursion Filled ((f ∷ cs) ∷ ts) → words_in_use ((f ∷ cs) ∷ ts) ≤ 3072 → length ((f ∷ cs) ∷ ts) ≤ 8
+    → AllByRecursion Sized (claimed row) → RanksBelow row → words_of (claimed row) ≤ words_of f.objects
     → cars_in_use (place_all busy row (cs ∷ ts)) ≤ 55
 few_placed busy row f cs ts p w l s r u =
     few_cars (place_all busy row (cs ∷ ts))
@@ -196,15 +191,15 @@ few_placed busy row f cs ts p w l s r u =
     (length-place_all busy row (cs ∷ ts) r l).1
 
 pub free_at_moment : (f : Car) (cs : Train) (ts : Trains) (m : Model)
-    → AllFilled ((f ∷ cs) ∷ ts) → words_in_use ((f ∷ cs) ∷ ts) ≤ 3072 → length ((f ∷ cs) ∷ ts) ≤ 8
-    → All Sized f.objects → RanksBelow (carried f cs ts m).row
+    → AllByRecursion Filled ((f ∷ cs) ∷ ts) → words_in_use ((f ∷ cs) ∷ ts) ≤ 3072 → length ((f ∷ cs) ∷ ts) ≤ 8
+    → AllByRecursion Sized f.objects → RanksBelow (carried f cs ts m).row
     → (n : ℕ) → FreeCar (moment n m ((f ∷ cs) ∷ ts))
 free_at_moment f cs ts m p w l s r n = go (carried f cs ts m) (claims_all Sized _ f.objects s).0 r (claims-total obj_size _ f.objects)
   where
-    go : (c : Carried) → All Sized (claimed c.row) → RanksBelow c.row → total obj_size (claimed c.row) + total obj_size c.left ≡ total obj_size f.objects
+    go : (c : Carried) → AllByRecursion Sized (claimed c.row) → RanksBelow c.row → total obj_size (claimed c.row) + total obj_size c.left ≡ total obj_size f.objects
         → FreeCar ((f ∷ []) ∷ place_all (f.number ∷ []) (take n c.row) (cs ∷ ts))
     go c a b e =
-        let k = few_placed (f.number ∷ []) (take n c.row) f cs ts p w l (claimed_all_take Sized n c.row a) (ranks_take n c.row b) (omega (arith, total-take obj_size n c.row)) in
+        let k = few_placed (f.number ∷ []) (take n c.row) f cs ts p w l (claimed_all_take Sized n c.row a) (all_take _ n c.row b) (omega (arith, total-take obj_size n c.row)) in
         free_car ((f ∷ []) ∷ place_all (f.number ∷ []) (take n c.row) (cs ∷ ts)) (omega (arith, k))
 
 -- A new object has from 2 to 64 words.

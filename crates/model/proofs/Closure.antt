@@ -1,11 +1,12 @@
 -- Carrying is closed: what a claimed object or a wish holds is not left in the car.
 use Rattle.std.proofs.Common.{◌≡◌, ℕ, zero, suc, ◌+◌, ◌≤◌, Bool, true, false, cond, eqb, ◌⊎◌, List, [], ◌∷◌, ◌++◌, length, get_or, Some, None, Option, sym, refl, ap, ◌∙◌, subst, inl, inr, arith, length-append}
 use Rattle.std.proofs.lemmas.Bool.{ne_eqb, eq-eqb}
+use Rattle.std.specs.List.{AllByRecursion}
 use Rattle.model.specs.Trains.{Obj, Train, Trains, train_objects, objects, total, times, is, one_if}
 use Rattle.model.specs.Claims.{sort_out, take_out, visit, close, claim, Wish, Claim, all_to, claims, ref_wishes, object_wishes, train_wishes, trains_wishes}
 use Rattle.model.specs.Step.{claimed, out_of, is_zero}
 use Rattle.model.proofs.Totals.{take_out-total, visit-total, close-total, claim-total, claims-total}
-use Rattle.model.specs.Sound.{All, Points}
+use Rattle.model.specs.Sound.{Points}
 use Rattle.model.proofs.Alls.{all_++, all_left, all_right}
 
 pub length-total : (os : List Obj) → total (λ o. 1) os ≡ length os
@@ -47,12 +48,12 @@ visit_none (Some x ∷ rs) left (suc i) y e = visit_none rs (take_out x left).le
 abbrev pub Done : List Obj → Obj → Type 0
 Done left o = Points (λ y. times y left ≡ 0) o
 
-pub done_less : (left less : List Obj) → ((y : ℕ) → times y less ≤ times y left) → (os : List Obj) → All (Done left) os → All (Done less) os
+pub done_less : (left less : List Obj) → ((y : ℕ) → times y less ≤ times y left) → (os : List Obj) → AllByRecursion (Done left) os → AllByRecursion (Done less) os
 done_less left less h [] d = tt
 done_less left less h (o ∷ os) d = ((λ i y e. omega (arith, h y, d.0 i y e)), done_less left less h os d.1)
 
 pub close_done : (n : ℕ) (q left : List Obj) → length q + length left ≤ n
-    → All (Done (close n q left).left) q × All (Done (close n q left).left) (close n q left).objs
+    → AllByRecursion (Done (close n q left).left) q × AllByRecursion (Done (close n q left).left) (close n q left).objs
 close_done zero [] left h = (tt, tt)
 close_done zero (o ∷ q) left h = absurd (omega (arith, h))
 close_done (suc n) [] left h = (tt, tt)
@@ -70,7 +71,7 @@ claim_none x left =
     let t = take_out x left in
     omega (arith, take_out_none x left, close_less (length left) t.objs t.left x)
 
-pub claim_done : (x : ℕ) (left : List Obj) → All (Done (claim x left).left) (claim x left).objs
+pub claim_done : (x : ℕ) (left : List Obj) → AllByRecursion (Done (claim x left).left) (claim x left).objs
 claim_done x left =
     let t = take_out x left in
     let h : length t.objs + length t.left ≤ length left =
@@ -90,64 +91,48 @@ claimed-all_to k (o ∷ os) = ap (λ ps. o ∷ ps) (claimed-all_to k os)
 pub claimed_row : (k : ℕ) (os : List Obj) (row : List Claim) → claimed (all_to k os ++ row) ≡ os ++ claimed row
 claimed_row k os row = claimed_of_++ (all_to k os) row ∙ ap (λ ps. ps ++ claimed row) (claimed-all_to k os)
 
-pub claims_done : (ws : List Wish) (left : List Obj) → All (Done (claims ws left).left) (claimed (claims ws left).row)
+pub claims_done : (ws : List Wish) (left : List Obj) → AllByRecursion (Done (claims ws left).left) (claimed (claims ws left).row)
 claims_done [] left = tt
 claims_done (w ∷ ws) left =
     let t = claim w.who left in
     let c = claims ws t.left in
-    subst (All (Done c.left)) (sym (claimed_row w.rank t.objs c.row))
+    subst (AllByRecursion (Done c.left)) (sym (claimed_row w.rank t.objs c.row))
     (all_++ _ t.objs (claimed c.row) (done_less t.left c.left (claims_less ws t.left) t.objs (claim_done w.who left)) (claims_done ws t.left))
 
-abbrev pub Each : (Wish → Type 0) → List Wish → Type 0
-Each P [] = Unit {0}
-Each P (w ∷ ws) = P w × Each P ws
-
-pub each_++ : (P : Wish → Type 0) (vs ws : List Wish) → Each P vs → Each P ws → Each P (vs ++ ws)
-each_++ P [] ws a b = b
-each_++ P (v ∷ vs) ws a b = (a.0, each_++ P vs ws a.1 b)
-
-pub each_left : (P : Wish → Type 0) (vs ws : List Wish) → Each P (vs ++ ws) → Each P vs
-each_left P [] ws a = tt
-each_left P (v ∷ vs) ws a = (a.0, each_left P vs ws a.1)
-
-pub each_right : (P : Wish → Type 0) (vs ws : List Wish) → Each P (vs ++ ws) → Each P ws
-each_right P [] ws a = a
-each_right P (v ∷ vs) ws a = each_right P vs ws a.1
-
 -- no object that was wished is left
-pub claims_none : (ws : List Wish) (left : List Obj) → Each (λ w. times w.who (claims ws left).left ≡ 0) ws
+pub claims_none : (ws : List Wish) (left : List Obj) → AllByRecursion (λ w. times w.who (claims ws left).left ≡ 0) ws
 claims_none [] left = tt
 claims_none (w ∷ ws) left =
     let t = claim w.who left in
     (omega (arith, claim_none w.who left, claims_less ws t.left w.who), claims_none ws t.left)
 
 -- from wishes back to the references that they stand for
-pub ref_each : (P : Wish → Type 0) (k : ℕ) (rs : List (Option ℕ)) → Each P (ref_wishes k rs) → (i x : ℕ) → get_or rs i None ≡ Some x → P (record { who = x; rank = k })
+pub ref_each : (P : Wish → Type 0) (k : ℕ) (rs : List (Option ℕ)) → AllByRecursion P (ref_wishes k rs) → (i x : ℕ) → get_or rs i None ≡ Some x → P (record { who = x; rank = k })
 ref_each P k [] a i x e = let z : ◌≡◌ {A = ℕ} 0 1 = cc in absurd (omega arith)
 ref_each P k (None ∷ rs) a zero x e = let z : ◌≡◌ {A = ℕ} 0 1 = cc in absurd (omega arith)
 ref_each P k (None ∷ rs) a (suc i) x e = ref_each P k rs a i x e
 ref_each P k (Some y ∷ rs) a zero x e = let q : y ≡ x = cc in subst (λ v. P (record { who = v; rank = k })) q a.0
 ref_each P k (Some y ∷ rs) a (suc i) x e = ref_each P k rs a.1 i x e
 
-pub object_each : (Q : ℕ → Type 0) (k : ℕ) (os : List Obj) → Each (λ w. Q w.who) (object_wishes k os) → All (Points Q) os
+pub object_each : (Q : ℕ → Type 0) (k : ℕ) (os : List Obj) → AllByRecursion (λ w. Q w.who) (object_wishes k os) → AllByRecursion (Points Q) os
 object_each Q k [] a = tt
 object_each Q k (o ∷ os) a =
     let P : Wish → Type 0 = λ w. Q w.who in
-    (ref_each P k o.body.refs (each_left P (ref_wishes k o.body.refs) (object_wishes k os) a), object_each Q k os (each_right P (ref_wishes k o.body.refs) (object_wishes k os) a))
+    (ref_each P k o.body.refs (all_left P (ref_wishes k o.body.refs) (object_wishes k os) a), object_each Q k os (all_right P (ref_wishes k o.body.refs) (object_wishes k os) a))
 
-pub train_each : (Q : ℕ → Type 0) (k : ℕ) (t : Train) → Each (λ w. Q w.who) (train_wishes k t) → All (Points Q) (train_objects t)
+pub train_each : (Q : ℕ → Type 0) (k : ℕ) (t : Train) → AllByRecursion (λ w. Q w.who) (train_wishes k t) → AllByRecursion (Points Q) (train_objects t)
 train_each Q k [] a = tt
 train_each Q k (c ∷ cs) a =
     let P : Wish → Type 0 = λ w. Q w.who in
-    all_++ (Points Q) c.objects (train_objects cs) (object_each Q k c.objects (each_left P (object_wishes k c.objects) (train_wishes k cs) a))
-    (train_each Q k cs (each_right P (object_wishes k c.objects) (train_wishes k cs) a))
+    all_++ (Points Q) c.objects (train_objects cs) (object_each Q k c.objects (all_left P (object_wishes k c.objects) (train_wishes k cs) a))
+    (train_each Q k cs (all_right P (object_wishes k c.objects) (train_wishes k cs) a))
 
-pub trains_each : (Q : ℕ → Type 0) (k : ℕ) (ts : Trains) → Each (λ w. Q w.who) (trains_wishes k ts) → All (Points Q) (objects ts)
+pub trains_each : (Q : ℕ → Type 0) (k : ℕ) (ts : Trains) → AllByRecursion (λ w. Q w.who) (trains_wishes k ts) → AllByRecursion (Points Q) (objects ts)
 trains_each Q k [] a = tt
 trains_each Q k (t ∷ ts) a =
     let P : Wish → Type 0 = λ w. Q w.who in
-    all_++ (Points Q) (train_objects t) (objects ts) (train_each Q k t (each_left P (train_wishes k t) (trains_wishes (k + 1) ts) a))
-    (trains_each Q (k + 1) ts (each_right P (train_wishes k t) (trains_wishes (k + 1) ts) a))
+    all_++ (Points Q) (train_objects t) (objects ts) (train_each Q k t (all_left P (train_wishes k t) (trains_wishes (k + 1) ts) a))
+    (trains_each Q (k + 1) ts (all_right P (train_wishes k t) (trains_wishes (k + 1) ts) a))
 
 -- some wish is for x
 abbrev pub Wished : ℕ → List Wish → Type 0
@@ -167,7 +152,7 @@ pub above_counts : (k : ℕ) → 1 ≤ k → ◌≡◌ {A = ℕ} (cond (is_zero 
 above_counts k h = ap (λ b. cond b 0 1) (ne_eqb k 0 (λ e. omega arith))
 
 -- a wish of a rank above 0 for an object of the car has something leave the first train
-pub out_some : (vs ws : List Wish) (left : List Obj) (x : ℕ) → Each (λ w. 1 ≤ w.rank) vs → Wished x vs → 1 ≤ times x left → 1 ≤ out_of (claims (vs ++ ws) left).row
+pub out_some : (vs ws : List Wish) (left : List Obj) (x : ℕ) → AllByRecursion (λ w. 1 ≤ w.rank) vs → Wished x vs → 1 ≤ times x left → 1 ≤ out_of (claims (vs ++ ws) left).row
 out_some [] ws left x a h l = absurd h
 out_some (v ∷ vs) ws left x a h l = go (out_some vs ws (claim v.who left).left x a.1) (claim v.who left).objs refl
   where

@@ -1,6 +1,7 @@
--- Each call keeps the space sound.
+-- AllByRecursion call keeps the space sound.
 use Rattle.std.proofs.Common.{◌≡◌, ℕ, zero, suc, ◌+◌, ◌<◌, ◌≤◌, Bool, true, false, cond, eqb, List, [], ◌∷◌, ◌++◌, length, get_or, replicate, Some, None, Option, sym, refl, ap, ◌∙◌, subst, inl, inr, arith}
 use Rattle.std.proofs.lemmas.Bool.{ne_eqb, leb-true, ltb-false, cases_eq, cases_lt}
+use Rattle.std.specs.List.{AllByRecursion}
 use Rattle.layout.specs.Meaning.{Meaning, Lawful}
 use Rattle.remembered.specs.Meaning.{Meaning as Remembers}
 use Rattle.model.specs.Calls.{Call, make, access, step, tally, Access, History}
@@ -10,21 +11,13 @@ use Rattle.model.specs.Claims.{Wish, Claim, claims, ref_wishes, train_wishes, tr
 use Rattle.model.specs.Step.{Mark, first_to, outside, mark_wishes, wishes, place_all, trim, out_of, mark_after, guard}
 use Rattle.model.specs.Space.{Model, opening, all_objects, space_make, made_by, has_room, space_with, carried, trains_after, step_by, step_on, act, space_of}
 use Rattle.model.proofs.Totals.{total-++, claims-total, place-total, place_at-total, place_all-total, trim-objects}
-use Rattle.model.specs.Sound.{All, Points, Sized, first_objects, Marked, SoundAt, Sound}
-use Rattle.model.proofs.Alls.{all_++, all_left, all_right, claims_all, place_at_all, place_all_all}
+use Rattle.model.specs.Sound.{Points, Sized, first_objects, Marked, SoundAt, Sound}
+use Rattle.model.proofs.Alls.{all_++, all_left, all_right, claims_all, place_at_all, place_all_all, all_map, all_with}
 use Rattle.model.proofs.Cars.{filled_tail, filled_place_at, filled_place_all, filled_trim, standing_place_at, standing_trim_all, length-place_at, length-place_all, length-trim, arrival_below, fresh_sized}
-use Rattle.model.proofs.Closure.{is_self, Wished, Each, each_left, each_right, claims_none, claims_done, ref_each, train_each, trains_each, out_some}
+use Rattle.model.proofs.Closure.{is_self, Wished, claims_none, claims_done, ref_each, train_each, trains_each, out_some}
 use Rattle.model.proofs.Effects.{Brings, brings}
 use Rattle.model.proofs.Alters.{ref_size, value_size, objects-alter, first-alter, length-alter, alter-times, alter_all, alter-size, alter-words, all_filled_alter, standing_alter, set_either}
 use Rattle.model.proofs.Outside.{first_none, first_some, Sends, outside_ranks, away, wishes_split, away_ranks, wishes_above, outside-away, claims_below, wishes_below}
-
-pub all_with : (P Q R : Obj → Type 0) → ((o : Obj) → P o → Q o → R o) → (os : List Obj) → All P os → All Q os → All R os
-all_with P Q R h [] a b = tt
-all_with P Q R h (o ∷ os) a b = (h o a.0 b.0, all_with P Q R h os a.1 b.1)
-
-pub all_map : (P Q : Obj → Type 0) → ((o : Obj) → P o → Q o) → (os : List Obj) → All P os → All Q os
-all_map P Q h [] a = tt
-all_map P Q h (o ∷ os) a = (h o a.0, all_map P Q h os a.1)
 
 pub is_other : (x : ℕ) (o : Obj) → (x ≡ o.id → ⊥) → is x o ≡ 0
 is_other x o ne = ap one_if (ne_eqb x o.id ne)
@@ -37,12 +30,12 @@ is_few x o = go (eqb x o.id)
     go false = omega arith
 
 -- an identity not yet given lies nowhere
-pub old_none : (n x : ℕ) (os : List Obj) → n ≤ x → All (λ o. o.id < n) os → times x os ≡ 0
+pub old_none : (n x : ℕ) (os : List Obj) → n ≤ x → AllByRecursion (λ o. o.id < n) os → times x os ≡ 0
 old_none n x [] h a = refl
 old_none n x (o ∷ os) h a = let k = a.0 in omega (arith, is_other x o (λ e. omega arith), old_none n x os h a.1)
 
 -- the body that is found is that of one of the objects
-pub inside_body : (R : Body → Type 0) (os : List Obj) (x : ℕ) (b : Body) → All (λ o. R o.body) os → inside os x ≡ Some b → R b
+pub inside_body : (R : Body → Type 0) (os : List Obj) (x : ℕ) (b : Body) → AllByRecursion (λ o. R o.body) os → inside os x ≡ Some b → R b
 inside_body R [] x b a e = let z : ◌≡◌ {A = ℕ} 0 1 = cc in absurd (omega arith)
 inside_body R (o ∷ os) x b a e = go (inside_body R os x b a.1) (eqb x o.id) e
   where
@@ -128,11 +121,11 @@ module _ (M : Meaning) (law : Lawful M) where
       let e = objects-alter x g m.trains in
       let same : (y : ℕ) → times y (objects (alter x g m.trains)) ≡ times y os = λ y. ap (times y) e ∙ alter-times x g y os in
       record {
-        old = subst (All (λ o. o.id < m.made)) (sym e) (alter_all x g _ _ (λ o h. h) os s.old);
+        old = subst (AllByRecursion (λ o. o.id < m.made)) (sym e) (alter_all x g _ _ (λ o h. h) os s.old);
         once = λ y. omega (arith, same y, s.once y);
-        sized = subst (All Sized) (sym e) (alter_all x g Sized Sized (λ o h. (omega (arith, h.0, alter-size x g keeps o), omega (arith, h.1, alter-size x g keeps o))) os s.sized);
+        sized = subst (AllByRecursion Sized) (sym e) (alter_all x g Sized Sized (λ o h. (omega (arith, h.0, alter-size x g keeps o), omega (arith, h.1, alter-size x g keeps o))) os s.sized);
         roots = λ r y h. omega (arith, same y, s.roots r y h);
-        refs = subst (All (Points (λ y. 1 ≤ times y (objects (alter x g m.trains))))) (sym e)
+        refs = subst (AllByRecursion (Points (λ y. 1 ≤ times y (objects (alter x g m.trains))))) (sym e)
             (alter_all x g (Points (λ y. 1 ≤ times y os)) _ (λ o h i y q. omega (arith, same y, points o h i y q)) os s.refs);
         room = omega (arith, ap words_of e, alter-words x g keeps os, s.room);
         filled = all_filled_alter x g keeps m.trains s.filled;
@@ -201,35 +194,35 @@ step_total w f cs ts m =
     )
 
 -- what holds of each object before holds of each after
-pub step_all : (P : Obj → Type 0) (f : Car) (cs : Train) (ts : Trains) (m : Model) → All P (objects ((f ∷ cs) ∷ ts)) → All P (objects (trains_after f cs ts m))
+pub step_all : (P : Obj → Type 0) (f : Car) (cs : Train) (ts : Trains) (m : Model) → AllByRecursion P (objects ((f ∷ cs) ∷ ts)) → AllByRecursion P (objects (trains_after f cs ts m))
 step_all P f cs ts m a =
     let c = carried f cs ts m in
     let R = place_all (f.number ∷ []) c.row (cs ∷ ts) in
     let t = all_left P (f.objects ++ train_objects cs) (objects ts) a in
     let rest = all_++ P (train_objects cs) (objects ts) (all_right P f.objects (train_objects cs) t) (all_right P (f.objects ++ train_objects cs) (objects ts) a) in
-    subst (All P) (sym (trim-objects R))
+    subst (AllByRecursion P) (sym (trim-objects R))
     (place_all_all P (f.number ∷ []) c.row (cs ∷ ts) rest (claims_all P (wishes m.roots m.mark f cs ts) f.objects (all_left P f.objects (train_objects cs) t)).0)
 
 -- no reference is overlooked: what a root or an object in a car holds is not lost
 module _ (f : Car) (cs : Train) (ts : Trains) (m : Model) where
-  wished_kept : Each (λ w. times w.who (carried f cs ts m).left ≡ 0) (wishes m.roots m.mark f cs ts)
+  wished_kept : AllByRecursion (λ w. times w.who (carried f cs ts m).left ≡ 0) (wishes m.roots m.mark f cs ts)
   wished_kept = claims_none (wishes m.roots m.mark f cs ts) f.objects
 
   pub roots_kept : (r x : ℕ) → held m.roots r ≡ Some x → times x (carried f cs ts m).left ≡ 0
   roots_kept = ref_each (λ w. times w.who (carried f cs ts m).left ≡ 0) (arrival ((f ∷ cs) ∷ ts)) m.roots
-      (each_left _ (ref_wishes (arrival ((f ∷ cs) ∷ ts)) m.roots) _ wished_kept)
+      (all_left _ (ref_wishes (arrival ((f ∷ cs) ∷ ts)) m.roots) _ wished_kept)
 
-  pub refs_kept : All (Points (λ y. times y (carried f cs ts m).left ≡ 0)) (objects (trains_after f cs ts m))
+  pub refs_kept : AllByRecursion (Points (λ y. times y (carried f cs ts m).left ≡ 0)) (objects (trains_after f cs ts m))
   refs_kept =
       let Q : ℕ → Type 0 = λ y. times y (carried f cs ts m).left ≡ 0 in
       let P : Wish → Type 0 = λ w. Q w.who in
       let R = place_all (f.number ∷ []) (carried f cs ts m).row (cs ∷ ts) in
-      let k = each_right P (mark_wishes m.mark) _ (each_right P (ref_wishes (arrival ((f ∷ cs) ∷ ts)) m.roots) _ wished_kept) in
-      subst (All (Points Q)) (sym (trim-objects R))
+      let k = all_right P (mark_wishes m.mark) _ (all_right P (ref_wishes (arrival ((f ∷ cs) ∷ ts)) m.roots) _ wished_kept) in
+      subst (AllByRecursion (Points Q)) (sym (trim-objects R))
       (place_all_all (Points Q) (f.number ∷ []) (carried f cs ts m).row (cs ∷ ts)
       (all_++ (Points Q) (train_objects cs) (objects ts)
-      (train_each Q 0 cs (each_right P (trains_wishes 1 ts) (train_wishes 0 cs) k))
-      (trains_each Q 1 ts (each_left P (trains_wishes 1 ts) (train_wishes 0 cs) k)))
+      (train_each Q 0 cs (all_right P (trains_wishes 1 ts) (train_wishes 0 cs) k))
+      (trains_each Q 1 ts (all_left P (trains_wishes 1 ts) (train_wishes 0 cs) k)))
       (claims_done (wishes m.roots m.mark f cs ts) f.objects))
 
 -- the first train only grows while objects are placed
@@ -341,9 +334,9 @@ train_sound has t ts m s e =
       old = all_right _ (train_objects t) (objects ts) s.old;
       once = λ x. omega (arith, both (is x), s.once x);
       sized = all_right _ (train_objects t) (objects ts) s.sized;
-      roots = λ r x h. omega (arith, both (is x), s.roots r x h, ref_each P (arrival (t ∷ ts)) m.roots (each_left P (ref_wishes (arrival (t ∷ ts)) m.roots) (trains_wishes 1 ts) none) r x h);
+      roots = λ r x h. omega (arith, both (is x), s.roots r x h, ref_each P (arrival (t ∷ ts)) m.roots (all_left P (ref_wishes (arrival (t ∷ ts)) m.roots) (trains_wishes 1 ts) none) r x h);
       refs = all_with _ _ (Points (λ y. 1 ≤ times y (objects ts))) (λ o p q i y h. omega (arith, both (is y), p i y h, q i y h)) (objects ts)
-          (trains_each (λ y. times y (train_objects t) ≡ 0) 1 ts (each_right P (ref_wishes (arrival (t ∷ ts)) m.roots) (trains_wishes 1 ts) none))
+          (trains_each (λ y. times y (train_objects t) ≡ 0) 1 ts (all_right P (ref_wishes (arrival (t ∷ ts)) m.roots) (trains_wishes 1 ts) none))
           (all_right _ (train_objects t) (objects ts) s.refs);
       room = omega (arith, both obj_size, s.room);
       filled = s.filled.1;

@@ -1,4 +1,4 @@
--- All cars in one row: seats, slots and numbers go by it, and placing an object changes it at one place.
+-- AllByRecursion cars in one row: seats, slots and numbers go by it, and placing an object changes it at one place.
 use Rattle.std.proofs.Common.{◌≡◌, ℕ, zero, suc, ◌+◌, ◌*◌, ◌<◌, ◌≤◌, Bool, true, false, eqb, ◌⊎◌, List, [], ◌∷◌, ◌++◌, length, Some, None, Option, sym, refl, ap, ◌∙◌, subst, inl, inr, append_assoc, arith}
 use Rattle.std.proofs.lemmas.Bool.{both_ways, cases_Bool, eqb-false, ltb-true, ltb-false, or_parts, or_from}
 use Rattle.layout.specs.Meaning.{Meaning}

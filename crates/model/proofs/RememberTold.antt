@@ -1,11 +1,11 @@
 -- What a remembered set has after notes and forgets.
 use Rattle.std.proofs.Common.{◌≡◌, ℕ, ◌<◌, Bool, true, false, eqb, ltb, List, [], ◌∷◌, ◌++◌, Some, None, Option, sym, refl, subst}
 use Rattle.std.proofs.lemmas.Bool.{both_ways, eqb-false, or_parts, lt-ltb}
+use Rattle.std.specs.List.{AllByRecursion}
 use Rattle.remembered.specs.Meaning.{Told, note, forget, Row}
 use Rattle.remembered.specs.Meaning.{Meaning as Remembers, Lawful as RemembersLawfully}
 use Rattle.model.specs.Trains.{Trains, one_of}
 use Rattle.model.specs.Notes.{Seat, seat, Slot, note_by, note_of, notes, tell, forget_all}
-use Rattle.model.specs.Remembered.{EachSlot}
 
 tell-++ : (xs ys : List Told) (r : Row) → tell (xs ++ ys) r ≡ tell ys (tell xs r)
 tell-++ [] ys r = refl
@@ -49,16 +49,16 @@ Gained has ts test r s =
     → has r c.number s.address ≡ true
 
 pub notes_gain : (has : Remembers) (law : RemembersLawfully has) (ts : Trains) (test : Slot → Bool) (ss : List Slot) (r : Row)
-    → EachSlot (Gained has ts test (tell (notes ts test ss) r)) ss
+    → AllByRecursion (Gained has ts test (tell (notes ts test ss) r)) ss
 notes_gain has law ts test [] r = tt
 notes_gain has law ts test (s ∷ ss) r = go (test s) refl (notes_gain has law ts test ss (tell (note_of ts s s.target) r)) (notes_gain has law ts test ss r)
   where
     go : (b : Bool) → test s ≡ b
-        → EachSlot (Gained has ts test (tell (notes ts test ss) (tell (note_of ts s s.target) r))) ss
-        → EachSlot (Gained has ts test (tell (notes ts test ss) r)) ss
-        → EachSlot (Gained has ts test (tell (elim b [ true ↦ note_of ts s s.target ++ notes ts test ss | false ↦ notes ts test ss ]) r)) (s ∷ ss)
+        → AllByRecursion (Gained has ts test (tell (notes ts test ss) (tell (note_of ts s s.target) r))) ss
+        → AllByRecursion (Gained has ts test (tell (notes ts test ss) r)) ss
+        → AllByRecursion (Gained has ts test (tell (elim b [ true ↦ note_of ts s s.target ++ notes ts test ss | false ↦ notes ts test ss ]) r)) (s ∷ ss)
     go true e more less =
-        subst (λ (q : Row). EachSlot (Gained has ts test q) (s ∷ ss)) (sym (tell-++ (note_of ts s s.target) (notes ts test ss) r)) (
+        subst (λ (q : Row). AllByRecursion (Gained has ts test q) (s ∷ ss)) (sym (tell-++ (note_of ts s s.target) (notes ts test ss) r)) (
           (λ t y c w q l m k.
               notes_keep has law ts test ss (tell (note_of ts s s.target) r) c.number s.address (note_gains has law ts s r y c w q l m k)),
           more,

@@ -1,6 +1,7 @@
 -- The space and the plain graph go together.
 use Rattle.std.proofs.Common.{◌≡◌, ℕ, zero, suc, ◌+◌, ◌<◌, ◌≤◌, Bool, true, false, cond, eqb, List, [], ◌∷◌, ◌++◌, length, get_or, set, Some, None, Option, sym, refl, ap, ◌∙◌, subst, ap₂, arith, length-append}
 use Rattle.std.proofs.lemmas.Bool.{eqb-true, eqb-false, leb-false, lt-leb, both_ways}
+use Rattle.std.specs.List.{AllByRecursion}
 use Rattle.layout.specs.Meaning.{Meaning, Lawful}
 use Rattle.remembered.specs.Meaning.{Meaning as Remembers}
 use Rattle.model.specs.Calls.{Call, make, access, step, tally, Access, link, follow, drop, put, lift, get, words, same, full, refused, Answer, History, is_full}
@@ -12,10 +13,10 @@ use Rattle.model.specs.Step.{first_to, outside}
 use Rattle.model.specs.Space.{Model, opening, all_objects, space_make, made_by, has_room, space_with, step_by, step_on, act, space_of, Use}
 use Rattle.model.specs.Reach.{by_root, by_ref, GraphReaches, SpaceReaches}
 use Rattle.model.specs.Laws.{PlainAnswer, PlainAnswers, FullExactly, FullExactlyWhen, SameReach, AnswersAreThePlainGraphs}
-use Rattle.model.specs.Sound.{All, Sound}
-use Rattle.model.proofs.Alls.{all_right, place_at_all}
+use Rattle.model.specs.Sound.{Sound}
+use Rattle.model.proofs.Alls.{all_right, place_at_all, all_map}
 use Rattle.model.proofs.Alters.{objects-alter, alter_all}
-use Rattle.model.proofs.Keeps.{all_map, inside_body, step_all, sound_of}
+use Rattle.model.proofs.Keeps.{inside_body, step_all, sound_of}
 
 -- an object has inside what its entry has
 abbrev pub Twin : List Body → Obj → Type 0
@@ -24,10 +25,10 @@ Twin es o = entry es o.id ≡ Some o.body
 pub record Sim (g : Graph) (m : Model) : Type 0 where
   pub roots : m.roots ≡ g.roots
   pub made : m.made ≡ length g.entries
-  pub twins : All (Twin g.entries) (all_objects m)
+  pub twins : AllByRecursion (Twin g.entries) (all_objects m)
 
 -- what is found in the cars is the entry
-pub inside-entry : (es : List Body) (os : List Obj) (x : ℕ) → All (Twin es) os → 1 ≤ times x os → inside os x ≡ entry es x
+pub inside-entry : (es : List Body) (os : List Obj) (x : ℕ) → AllByRecursion (Twin es) os → 1 ≤ times x os → inside os x ≡ entry es x
 inside-entry es [] x a h = absurd (omega (arith, h))
 inside-entry es (o ∷ os) x a h = go (inside-entry es os x a.1) (eqb x o.id) refl
   where
@@ -90,8 +91,8 @@ twin_alter es x f o t = go (eqb x o.id) refl
         ap (λ y. entry (alter_entry y f es) o.id) e ∙ alter_same es o.id f o.body t
     go false q = alter_other es x o.id f (eqb-false x o.id q) ∙ t
 
-twins_alter : (es : List Body) (x : ℕ) (f : Body → Body) (ts : Trains) → All (Twin es) (objects ts) → All (Twin (alter_entry x f es)) (objects (alter x f ts))
-twins_alter es x f ts a = subst (All (Twin (alter_entry x f es))) (sym (objects-alter x f ts)) (alter_all x f (Twin es) (Twin (alter_entry x f es)) (twin_alter es x f) (objects ts) a)
+twins_alter : (es : List Body) (x : ℕ) (f : Body → Body) (ts : Trains) → AllByRecursion (Twin es) (objects ts) → AllByRecursion (Twin (alter_entry x f es)) (objects (alter x f ts))
+twins_alter es x f ts a = subst (AllByRecursion (Twin (alter_entry x f es))) (sym (objects-alter x f ts)) (alter_all x f (Twin es) (Twin (alter_entry x f es)) (twin_alter es x f) (objects ts) a)
 
 effect_sim : (M : Meaning) (e : Effect) (g : Graph) (m : Model) → Sim g m → Sim (with_effect e g) (space_with M e m)
 effect_sim M leave g m s = s
@@ -143,9 +144,9 @@ made M true true true r k x y g m s =
 
 step_sim : (M : Meaning) (has : Remembers) (g : Graph) (ts : Trains) (m : Model) → Sim g m → m.trains ≡ ts → Sim g (step_on M has ts m).state
 step_sim M has g [] m s e = s
-step_sim M has g (t ∷ ts) m s e = go (first_to (train_objects t) (outside m.roots (t ∷ ts) ts)) t (subst (λ us. All (Twin g.entries) (objects us)) e s.twins)
+step_sim M has g (t ∷ ts) m s e = go (first_to (train_objects t) (outside m.roots (t ∷ ts) ts)) t (subst (λ us. AllByRecursion (Twin g.entries) (objects us)) e s.twins)
   where
-    go : (w : Option Wish) (u : Train) → All (Twin g.entries) (objects (u ∷ ts)) → Sim g (step_by M has w u ts m).state
+    go : (w : Option Wish) (u : Train) → AllByRecursion (Twin g.entries) (objects (u ∷ ts)) → Sim g (step_by M has w u ts m).state
     go None u a = record { roots = s.roots; made = s.made; twins = all_right (Twin g.entries) (train_objects u) (objects ts) a }
     go (Some w) [] a = record { roots = s.roots; made = s.made; twins = a }
     go (Some w) (f ∷ cs) a = record { roots = s.roots; made = s.made; twins = step_all (Twin g.entries) f cs ts m a }

@@ -1,5 +1,6 @@
 -- While the use goes on: each step brings the first train nearer to its end, and each end brings the waste one rank forward.
 use Rattle.std.proofs.Common.{◌≡◌, ℕ, zero, suc, pred, ◌+◌, ◌*◌, ◌≤◌, Bool, true, false, [], ◌∷◌, length, Some, None, Option, sym, refl, ap, subst, arith}
+use Rattle.std.specs.List.{AllByRecursion}
 use Rattle.layout.specs.Meaning.{Meaning}
 use Rattle.remembered.specs.Meaning.{Meaning as Remembers}
 use Rattle.model.specs.Calls.{Call, make, access, step, tally}
@@ -9,7 +10,7 @@ use Rattle.model.specs.Claims.{Wish}
 use Rattle.model.specs.Step.{Mark, first_to, outside, place_all, trim, out_of, mark_after, guard}
 use Rattle.model.specs.Space.{Model, all_objects, carried, act, step_on, step_by, space_make, space_with, has_room}
 use Rattle.model.specs.Laws.{is_step}
-use Rattle.model.specs.Sound.{All, SoundAt, Sound}
+use Rattle.model.specs.Sound.{SoundAt, Sound}
 use Rattle.model.proofs.Outside.{first_some}
 use Rattle.model.proofs.Cars.{arrival_below}
 use Rattle.model.proofs.WasteClaims.{Leads, Sent}
@@ -57,8 +58,8 @@ module _ (G : ℕ → Type 0) (M : Meaning) (has : Remembers) (b : ℕ) (m : Mod
   went [] ts e s c k s' = absurd (omega (arith, s.standing.0))
   went (f ∷ cs) ts e s c k s' = go (first_to (train_objects (f ∷ cs)) (outside m.roots ((f ∷ cs) ∷ ts) ts)) refl s'
     where
-      leads : All (Leads (Not G)) (objects ((f ∷ cs) ∷ ts))
-      leads = subst (λ (us : Trains). All (Leads (Not G)) (objects us)) e apart.leads
+      leads : AllByRecursion (Leads (Not G)) (objects ((f ∷ cs) ∷ ts))
+      leads = subst (λ (us : Trains). AllByRecursion (Leads (Not G)) (objects us)) e apart.leads
 
       go : (w : Option Wish) → first_to (train_objects (f ∷ cs)) (outside m.roots ((f ∷ cs) ∷ ts) ts) ≡ w → Sound (step_by M has w (f ∷ cs) ts m).state
           → Went G b (toil m.mark (f ∷ cs)) (step_by M has w (f ∷ cs) ts m).state.mark (step_by M has w (f ∷ cs) ts m).state.trains

@@ -2,6 +2,7 @@
 use Rattle.std.proofs.Common.{◌≡◌, ℕ, zero, suc, ◌+◌, ◌-◌, ◌*◌, ◌<◌, ◌≤◌, Bool, true, false, eqb, ◌⊎◌, List, [], ◌∷◌, ◌++◌, length, get_or, Some, Option, sym, refl, ap, subst, inl, inr, arith}
 use lib.ListN.{get_or-eq_default}
 use Rattle.std.proofs.lemmas.Bool.{eq-eqb, eqb-true, or_from, cases_lt, cases_Bool, both_ways}
+use Rattle.std.specs.List.{AllByRecursion}
 use Rattle.layout.specs.Meaning.{Meaning, Lawful}
 use Rattle.remembered.specs.Meaning.{Meaning as Remembers}
 use Rattle.model.specs.Calls.{History}
@@ -13,14 +14,15 @@ use Rattle.model.specs.Space.{Model, all_objects, space_of, Use}
 use Rattle.model.specs.Reach.{by_root, by_ref, SpaceReaches, Unreachable}
 use Rattle.model.specs.Laws.{steps, train_steps, WasteUpTo, GoneAfter, WasteNearTheFrontLeavesSooner, WasteLeavesInCountedSteps, size_of, sizes, numbered, WordsInUseAreOfTheReachableAndTheNew}
 use Rattle.model.proofs.Totals.{total-++}
-use Rattle.model.specs.Sound.{All, SoundAt, Sound}
+use Rattle.model.specs.Sound.{SoundAt, Sound}
 use Rattle.model.proofs.Distinct.{sum_by, sum_within, one_of_head, one_of_left, one_of_right, in_numbered}
-use Rattle.model.proofs.Keeps.{all_map, sound_of}
+use Rattle.model.proofs.Keeps.{sound_of}
 use Rattle.model.proofs.Sim.{Twin, sim_of}
 use Rattle.model.proofs.WasteClaims.{Leads}
 use Rattle.model.proofs.WasteClean.{Not, Apart, apart_act, Clean}
 use Rattle.model.proofs.WasteProgress.{toil_high}
 use Rattle.model.proofs.WasteGoing.{GoingAt, Going, going_act, ended}
+use Rattle.model.proofs.Alls.{all_map}
 
 -- an object is found under its identity, if each identity is there once
 self : (o : Obj) → is o.id o ≡ 1
@@ -34,7 +36,7 @@ inside_lies (o ∷ os) x b e = go (inside_lies os x b) (eqb x o.id) e
     go more true e = omega arith
     go more false e = omega (arith, more e)
 
-inside_self : (os : List Obj) → ((x : ℕ) → times x os ≤ 1) → All (λ o. inside os o.id ≡ Some o.body) os
+inside_self : (os : List Obj) → ((x : ℕ) → times x os ≤ 1) → AllByRecursion (λ o. inside os o.id ≡ Some o.body) os
 inside_self [] h = tt
 inside_self (o ∷ os) h = (
   ap (λ (t : Bool). elim t [ true ↦ Some o.body | false ↦ inside os o.id ]) (eq-eqb o.id o.id refl),
@@ -46,7 +48,7 @@ inside_self (o ∷ os) h = (
     go p e true q = absurd (let z : is p.id o ≡ 1 = ap one_if q in omega (arith, z, h p.id, inside_lies os p.id p.body e))
     go p e false q = e
 
-each_lies : (os : List Obj) → All (λ o. 1 ≤ times o.id os) os
+each_lies : (os : List Obj) → AllByRecursion (λ o. 1 ≤ times o.id os) os
 each_lies [] = tt
 each_lies (o ∷ os) = (omega (arith, self o), all_map (λ p. 1 ≤ times p.id os) (λ p. 1 ≤ times p.id (o ∷ os)) (λ p e. omega (arith, e)) os (each_lies os))
 
@@ -58,12 +60,12 @@ apart_start m s = record {
   leads = leads (all_objects m) s.old (inside_self (all_objects m) s.once);
 }
   where
-    leads : (os : List Obj) → All (λ o. o.id < m.made) os → All (λ o. inside (all_objects m) o.id ≡ Some o.body) os → All (Leads (Not (Unreachable m))) os
+    leads : (os : List Obj) → AllByRecursion (λ o. o.id < m.made) os → AllByRecursion (λ o. inside (all_objects m) o.id ≡ Some o.body) os → AllByRecursion (Leads (Not (Unreachable m))) os
     leads [] old found = tt
     leads (o ∷ os) old found =
         (λ n i y e u. n (record { old = old.0; unreached = λ r. u.unreached (by_ref i o.body r found.0 e) }), leads os old.1 found.1)
 
-lies_all : (Q : ℕ → Type 0) (os : List Obj) → ((x : ℕ) → 1 ≤ times x os → Q x) → All (λ o. Q o.id) os
+lies_all : (Q : ℕ → Type 0) (os : List Obj) → ((x : ℕ) → 1 ≤ times x os → Q x) → AllByRecursion (λ o. Q o.id) os
 lies_all Q [] h = tt
 lies_all Q (o ∷ os) h = (h o.id (omega (arith, self o)), lies_all Q os (λ x l. h x (omega (arith, l))))
 
@@ -87,7 +89,7 @@ clean_none : (G : ℕ → Type 0) (x : ℕ) → G x → (ts : Trains) → Clean 
 clean_none G x g [] h = refl
 clean_none G x g (t ∷ ts) h = omega (arith, total-++ (is x) (train_objects t) (objects ts), clean_none G x g ts h.1, none (train_objects t) h.0)
   where
-    none : (os : List Obj) → All (λ o. Not G o.id) os → times x os ≡ 0
+    none : (os : List Obj) → AllByRecursion (λ o. Not G o.id) os → times x os ≡ 0
     none [] h = refl
     none (o ∷ os) h = omega (arith, other (eqb x o.id) refl, none os h.1)
       where
@@ -160,11 +162,11 @@ sizes-++ : (es : List Body) (xs ys : List ℕ) → sizes es (xs ++ ys) ≡ sizes
 sizes-++ es [] ys = omega arith
 sizes-++ es (x ∷ xs) ys = omega (arith, sizes-++ es xs ys)
 
-words_by : (es : List Body) (os : List Obj) → All (Twin es) os → words_of os ≡ sizes es (identities os)
+words_by : (es : List Body) (os : List Obj) → AllByRecursion (Twin es) os → words_of os ≡ sizes es (identities os)
 words_by es [] t = refl
 words_by es (o ∷ os) t = let e : size_of (entry es o.id) ≡ size o.body = ap size_of t.0 in omega (arith, e, words_by es os t.1)
 
-all_one_of : (os : List Obj) (ys : List ℕ) → All (λ o. one_of o.id ys ≡ true) os → (x : ℕ) → one_of x (identities os) ≡ true → one_of x ys ≡ true
+all_one_of : (os : List Obj) (ys : List ℕ) → AllByRecursion (λ o. one_of o.id ys ≡ true) os → (x : ℕ) → one_of x (identities os) ≡ true → one_of x ys ≡ true
 all_one_of [] ys h x e = absurd (both_ways false refl e)
 all_one_of (o ∷ os) ys h x e =
     elim (one_of_head x o.id (identities os) e) [
@@ -172,7 +174,7 @@ all_one_of (o ∷ os) ys h x e =
       | inr q ↦ all_one_of os ys h.1 x q
     ]
 
-words-within : (es : List Body) (os : List Obj) (xs ys : List ℕ) → ((x : ℕ) → times x os ≤ 1) → All (Twin es) os → All (λ o. one_of o.id (xs ++ ys) ≡ true) os
+words-within : (es : List Body) (os : List Obj) (xs ys : List ℕ) → ((x : ℕ) → times x os ≤ 1) → AllByRecursion (Twin es) os → AllByRecursion (λ o. one_of o.id (xs ++ ys) ≡ true) os
     → words_of os ≤ sizes es xs + sizes es ys
 words-within es os xs ys once twins known =
     omega (
@@ -186,8 +188,8 @@ words-within es os xs ys once twins known =
 
 -- each object in a car was reachable at the halt or is new
 known_all : (m n : Model) (xs : List ℕ) → ((x : ℕ) → SpaceReaches m x → one_of x xs ≡ true) → ((x : ℕ) → Unreachable m x → times x (all_objects n) ≡ 0)
-    → (os : List Obj) → All (λ o. o.id < n.made) os → All (λ o. 1 ≤ times o.id (all_objects n)) os
-    → All (λ o. one_of o.id (xs ++ numbered m.made (n.made - m.made)) ≡ true) os
+    → (os : List Obj) → AllByRecursion (λ o. o.id < n.made) os → AllByRecursion (λ o. 1 ≤ times o.id (all_objects n)) os
+    → AllByRecursion (λ o. one_of o.id (xs ++ numbered m.made (n.made - m.made)) ≡ true) os
 known_all m n xs reach gone [] old lies = tt
 known_all m n xs reach gone (o ∷ os) old lies = (known (cases_lt o.id m.made), known_all m n xs reach gone os old.1 lies.1)
   where

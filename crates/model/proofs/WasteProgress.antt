@@ -1,13 +1,14 @@
 -- The first train ends: a number of it falls with each step, and no other call lets it grow.
 use Rattle.std.proofs.Common.{◌≡◌, ℕ, zero, suc, ◌+◌, ◌*◌, ◌≤◌, Bool, true, false, cond, eqb, ltb, List, [], ◌∷◌, ◌++◌, length, Some, None, Option, sym, refl, ap, ◌∙◌, subst, inl, inr, arith}
 use Rattle.std.proofs.lemmas.Bool.{lt-ltb, ltb-true, ltb-false, ne_eqb, cases_lt}
+use Rattle.std.specs.List.{AllByRecursion}
 use Rattle.model.specs.Bodies.{Body, Roots}
 use Rattle.model.specs.Trains.{Obj, Car, Train, Trains, train_objects, objects, total, words_of, obj_size, place, place_at, fits, with_object, opened, numbers, lowest_free, times, among, is, one_if, alter_objects, alter_train}
 use Rattle.model.specs.Claims.{Wish, Claim}
 use Rattle.model.specs.Step.{Mark, first_to, outside, wishes, place_all, is_zero, out_of, back_of, claimed, mark_after, guard}
 use Rattle.model.specs.Space.{Model, carried}
 use Rattle.model.proofs.Totals.{total-++, claims-total, place-total}
-use Rattle.model.specs.Sound.{All, Sized, Filled, SoundAt}
+use Rattle.model.specs.Sound.{Sized, Filled, SoundAt}
 use Rattle.model.proofs.Alls.{all_left}
 use Rattle.model.proofs.Closure.{Wished}
 use Rattle.model.proofs.Alters.{alter-times}
@@ -47,7 +48,7 @@ filled_long [] h = omega arith
 filled_long (c ∷ []) h = omega (arith, total-++ obj_size c.objects [], h.0)
 filled_long (c ∷ d ∷ cs) h = omega (arith, total-++ obj_size c.objects (train_objects (d ∷ cs)), filled_long (d ∷ cs) h.2, h.0)
 
-sized_two : (os : List Obj) → All Sized os → 2 * total one os ≤ words_of os
+sized_two : (os : List Obj) → AllByRecursion Sized os → 2 * total one os ≤ words_of os
 sized_two [] h = omega arith
 sized_two (o ∷ os) h = omega (arith, sized_two os h.1, h.0.0)
 
