@@ -1,8 +1,9 @@
 -- A changed reference or data word moves no object and changes no size.
 use Rattle.std.proofs.Common.{◌≡◌, ℕ, zero, suc, Bool, true, false, cond, eqb, List, [], ◌∷◌, ◌++◌, length, get_or, set, Some, None, Option, sym, refl, ap, ◌∙◌, ap₂, arith, length-set}
 use Rattle.std.specs.List.{AllByRecursion}
+use Rattle.std.specs.Prelude.{map}
 use Rattle.model.specs.Bodies.{Body, size, with_ref, with_value}
-use Rattle.model.specs.Trains.{Obj, Train, Trains, train_objects, objects, total, obj_size, words_of, times, is, alter_object, alter_objects, alter_train, alter}
+use Rattle.model.specs.Trains.{Obj, Train, Trains, train_objects, objects, total, obj_size, words_of, times, is, alter_object, alter_train, alter}
 use Rattle.model.specs.Sound.{Filled, first_objects, HasCars}
 
 pub ref_size : (i : ℕ) (h : Option ℕ) (b : Body) → size (with_ref i h b) ≡ size b
@@ -12,19 +13,19 @@ pub value_size : (w v : ℕ) (b : Body) → size (with_value w v b) ≡ size b
 value_size w v b = omega (arith, length-set b.values w v)
 
 module _ (x : ℕ) (g : Body → Body) where
-  pub alter-++ : (xs ys : List Obj) → alter_objects x g (xs ++ ys) ≡ alter_objects x g xs ++ alter_objects x g ys
+  pub alter-++ : (xs ys : List Obj) → map (alter_object x g) (xs ++ ys) ≡ map (alter_object x g) xs ++ map (alter_object x g) ys
   alter-++ [] ys = refl
   alter-++ (o ∷ xs) ys = ap (λ os. alter_object x g o ∷ os) (alter-++ xs ys)
 
-  pub train_alter : (t : Train) → train_objects (alter_train x g t) ≡ alter_objects x g (train_objects t)
+  pub train_alter : (t : Train) → train_objects (alter_train x g t) ≡ map (alter_object x g) (train_objects t)
   train_alter [] = refl
-  train_alter (c ∷ cs) = ap (λ os. alter_objects x g c.objects ++ os) (train_alter cs) ∙ sym (alter-++ c.objects (train_objects cs))
+  train_alter (c ∷ cs) = ap (λ os. map (alter_object x g) c.objects ++ os) (train_alter cs) ∙ sym (alter-++ c.objects (train_objects cs))
 
-  pub objects-alter : (ts : Trains) → objects (alter x g ts) ≡ alter_objects x g (objects ts)
+  pub objects-alter : (ts : Trains) → objects (alter x g ts) ≡ map (alter_object x g) (objects ts)
   objects-alter [] = refl
   objects-alter (t ∷ ts) = ap₂ (λ os ps. os ++ ps) (train_alter t) (objects-alter ts) ∙ sym (alter-++ (train_objects t) (objects ts))
 
-  pub first-alter : (ts : Trains) → first_objects (alter x g ts) ≡ alter_objects x g (first_objects ts)
+  pub first-alter : (ts : Trains) → first_objects (alter x g ts) ≡ map (alter_object x g) (first_objects ts)
   first-alter [] = refl
   first-alter (t ∷ ts) = train_alter t
 
@@ -32,14 +33,14 @@ module _ (x : ℕ) (g : Body → Body) where
   length-alter [] = refl
   length-alter (t ∷ ts) = omega (arith, length-alter ts)
 
-  pub alter-total : (f : Obj → ℕ) → ((o : Obj) → f (alter_object x g o) ≡ f o) → (os : List Obj) → total f (alter_objects x g os) ≡ total f os
+  pub alter-total : (f : Obj → ℕ) → ((o : Obj) → f (alter_object x g o) ≡ f o) → (os : List Obj) → total f (map (alter_object x g) os) ≡ total f os
   alter-total f h [] = refl
   alter-total f h (o ∷ os) = omega (arith, h o, alter-total f h os)
 
-  pub alter-times : (y : ℕ) (os : List Obj) → times y (alter_objects x g os) ≡ times y os
+  pub alter-times : (y : ℕ) (os : List Obj) → times y (map (alter_object x g) os) ≡ times y os
   alter-times y = alter-total (is y) (λ o. refl)
 
-  pub alter_all : (P Q : Obj → Type 0) → ((o : Obj) → P o → Q (alter_object x g o)) → (os : List Obj) → AllByRecursion P os → AllByRecursion Q (alter_objects x g os)
+  pub alter_all : (P Q : Obj → Type 0) → ((o : Obj) → P o → Q (alter_object x g o)) → (os : List Obj) → AllByRecursion P os → AllByRecursion Q (map (alter_object x g) os)
   alter_all P Q h [] a = tt
   alter_all P Q h (o ∷ os) a = (h o a.0, alter_all P Q h os a.1)
 
@@ -51,7 +52,7 @@ module _ (x : ℕ) (g : Body → Body) where
         go true = keeps o.body
         go false = refl
 
-    pub alter-words : (os : List Obj) → words_of (alter_objects x g os) ≡ words_of os
+    pub alter-words : (os : List Obj) → words_of (map (alter_object x g) os) ≡ words_of os
     alter-words = alter-total obj_size alter-size
 
     filled_alter : (t : Train) → Filled t → Filled (alter_train x g t)

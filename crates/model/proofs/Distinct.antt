@@ -1,8 +1,8 @@
 -- Lists of numbers, each there once, and the lowest number that is not in a list.
 use Rattle.std.proofs.Common.{◌≡◌, ℕ, zero, suc, ◌+◌, ◌<◌, ◌≤◌, Bool, true, false, ◌||◌, eqb, ◌⊎◌, List, [], ◌∷◌, ◌++◌, length, sym, refl, ap, ◌∙◌, subst, inl, inr, arith}
 use Rattle.std.proofs.lemmas.Bool.{both_ways, eqb-true, eqb-false, eq-eqb, ne_eqb, or_cases, or_from, or_left, or_right}
+use Rattle.std.specs.List.{range_with_len}
 use Rattle.model.specs.Trains.{one_of, Distinct, lowest_from, lowest_free}
-use Rattle.model.specs.Laws.{numbered}
 
 abbrev pub sum_by : (ℕ → ℕ) → List ℕ → ℕ
 sum_by f [] = 0
@@ -89,30 +89,30 @@ sum_one (x ∷ xs) = omega (arith, sum_one xs)
 pub length-within : (xs ys : List ℕ) → Distinct xs → ((x : ℕ) → one_of x xs ≡ true → one_of x ys ≡ true) → length xs ≤ length ys
 length-within xs ys d h = omega (arith, sum_one xs, sum_one ys, sum_within one xs ys d h)
 
-pub below_numbered : (x a n : ℕ) → x < a → one_of x (numbered a n) ≡ false
+pub below_numbered : (x a n : ℕ) → x < a → one_of x (range_with_len a n) ≡ false
 below_numbered x a zero h = refl
-below_numbered x a (suc n) h = or_from (eqb x a) (one_of x (numbered (a + 1) n)) (ne_eqb x a (λ e. omega arith)) (below_numbered x (a + 1) n (omega arith))
+below_numbered x a (suc n) h = or_from (eqb x a) (one_of x (range_with_len (a + 1) n)) (ne_eqb x a (λ e. omega arith)) (below_numbered x (a + 1) n (omega arith))
 
-pub distinct_numbered : (a n : ℕ) → Distinct (numbered a n)
+pub distinct_numbered : (a n : ℕ) → Distinct (range_with_len a n)
 distinct_numbered a zero = tt
 distinct_numbered a (suc n) = (below_numbered a (a + 1) n (omega arith), distinct_numbered (a + 1) n)
 
-pub length-numbered : (a n : ℕ) → length (numbered a n) ≡ n
+pub length-numbered : (a n : ℕ) → length (range_with_len a n) ≡ n
 length-numbered a zero = refl
 length-numbered a (suc n) = omega (arith, length-numbered (a + 1) n)
 
-pub in_numbered : (x a n : ℕ) → a ≤ x → x < a + n → one_of x (numbered a n) ≡ true
+pub in_numbered : (x a n : ℕ) → a ≤ x → x < a + n → one_of x (range_with_len a n) ≡ true
 in_numbered x a zero p q = absurd (omega arith)
 in_numbered x a (suc n) p q = go (eqb x a) refl (λ h. in_numbered x (a + 1) n h (omega arith))
   where
-    go : (b : Bool) → eqb x a ≡ b → (a + 1 ≤ x → one_of x (numbered (a + 1) n) ≡ true) → (b || one_of x (numbered (a + 1) n)) ≡ true
+    go : (b : Bool) → eqb x a ≡ b → (a + 1 ≤ x → one_of x (range_with_len (a + 1) n) ≡ true) → (b || one_of x (range_with_len (a + 1) n)) ≡ true
     go true e more = refl
     go false e more = more (let k : x ≡ a → ⊥ = eqb-false x a e in omega arith)
 
-pub numbered_bounds : (x a n : ℕ) → one_of x (numbered a n) ≡ true → (a ≤ x) × (x < a + n)
+pub numbered_bounds : (x a n : ℕ) → one_of x (range_with_len a n) ≡ true → (a ≤ x) × (x < a + n)
 numbered_bounds x a zero e = absurd (both_ways false refl e)
 numbered_bounds x a (suc n) e =
-    elim (or_cases (eqb x a) (one_of x (numbered (a + 1) n)) e) [
+    elim (or_cases (eqb x a) (one_of x (range_with_len (a + 1) n)) e) [
       | inl p ↦ (omega (arith, eqb-true x a p), omega (arith, eqb-true x a p))
       | inr p ↦ (omega (arith, (numbered_bounds x (a + 1) n p).0), omega (arith, (numbered_bounds x (a + 1) n p).1))
     ]
@@ -120,7 +120,7 @@ numbered_bounds x a (suc n) e =
 -- the tries end at a number that is not used, or all of them were used
 abbrev Ends : (tries n r : ℕ) → List ℕ → Type 0
 Ends k n r used =
-    ((r < n + k) × (one_of r used ≡ false)) ⊎ ((z : ℕ) → one_of z (numbered n k) ≡ true → one_of z used ≡ true)
+    ((r < n + k) × (one_of r used ≡ false)) ⊎ ((z : ℕ) → one_of z (range_with_len n k) ≡ true → one_of z used ≡ true)
 
 ends : (k n : ℕ) (used : List ℕ) → Ends k n (lowest_from k n used) used
 ends zero n used = inr (λ z e. absurd (both_ways false refl e))
@@ -128,7 +128,7 @@ ends (suc k) n used = go (one_of n used) refl (ends k (n + 1) used)
   where
     more : one_of n used ≡ true → (r : ℕ) → Ends k (n + 1) r used → Ends (suc k) n r used
     more e r (inl p) = inl (omega (arith, p.0), p.1)
-    more e r (inr h) = inr (λ z q. elim (one_of_head z n (numbered (n + 1) k) q) [
+    more e r (inr h) = inr (λ z q. elim (one_of_head z n (range_with_len (n + 1) k) q) [
       | inl s ↦ subst (λ (y : ℕ). one_of y used ≡ true) (sym s) e
       | inr s ↦ h z s
     ])
@@ -142,7 +142,7 @@ lowest_within k n used h = go (lowest_from k n used) (ends k n used)
   where
     go : (r : ℕ) → Ends k n r used → (r < n + k) × (one_of r used ≡ false)
     go r (inl p) = p
-    go r (inr all) = absurd (omega (arith, length-within (numbered n k) used (distinct_numbered n k) all, length-numbered n k))
+    go r (inr all) = absurd (omega (arith, length-within (range_with_len n k) used (distinct_numbered n k) all, length-numbered n k))
 
 pub lowest_unused : (used : List ℕ) → length used < 64 → (lowest_free used < 64) × (one_of (lowest_free used) used ≡ false)
 lowest_unused used h = lowest_within 64 0 used h

@@ -1,6 +1,7 @@
 -- What a call on the roots' objects changes: it brings in only what a root holds or a reference of a root's object.
 use Rattle.std.proofs.Common.{◌≡◌, ℕ, ◌<◌, Bool, true, false, ◌&&◌, ltb, leb, length, get_or, Some, None, Option, refl, arith}
 use Rattle.std.proofs.lemmas.Bool.{ltb-true}
+use Rattle.std.specs.Prelude.{find}
 use Rattle.model.specs.Calls.{Access, link, follow, drop, put, lift, get, words, same, Refusal, root, missing, buffer}
 use Rattle.model.specs.Bodies.{Body, Roots, held, is_root, Effect, leave, hold, point, store, Reply, Found, nobody, found, with_body, object_of, unless, on_object, lifted, store_lifted, reply_of}
 

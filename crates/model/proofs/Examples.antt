@@ -1,6 +1,7 @@
 -- The worked examples, by computing the definitions.
 use Rattle.std.proofs.Common.{◌≡◌, ℕ, ◌+◌, Bool, true, false, refl, arith}
 use Rattle.std.proofs.lemmas.Bool.{lt-leb}
+use Rattle.std.specs.Prelude.{replicate}
 use Rattle.calls.specs.Answers.{refusal_number}
 use Rattle.calls.specs.declared.answer.Refusal.{Refusal as ToldRefusal}
 use Rattle.calls.specs.declared.answer.Refusal.TheVariants.{Root, Empty, Missing, Shape, Full, Range, Buffer}
@@ -14,14 +15,14 @@ use Rattle.model.specs.Calls.{make, refused, full, number}
 use Rattle.model.specs.Bodies.{fresh, size, is_root}
 use Rattle.model.specs.Trains.{words_in_use, capacity}
 use Rattle.model.specs.Space.{Model, opening, space_make, act}
-use Rattle.model.specs.Examples.{WorkedExamples, refusal_of, behind, repeated}
+use Rattle.model.specs.Examples.{WorkedExamples, refusal_of, behind}
 use Rattle.model.proofs.Cars.{fresh_sized}
 
 product_lawful : Lawful product_meaning
 product_lawful = pair_lawful record_meaning record_coding array_meaning array_coding record_lawful record_coded array_lawful
 
 filled : Model
-filled = behind slot_has (repeated 48 (make 0 1 63 0)) opening
+filled = behind slot_has (replicate 48 (make 0 1 63 0)) opening
 
 filled_words : words_in_use filled.trains ≡ 3072
 unfolding filled

@@ -1,7 +1,8 @@
 -- AllByRecursion call keeps the space sound.
 use Rattle.std.proofs.Common.{◌≡◌, ℕ, zero, suc, ◌+◌, ◌<◌, ◌≤◌, Bool, true, false, cond, eqb, List, [], ◌∷◌, ◌++◌, length, get_or, replicate, Some, None, Option, sym, refl, ap, ◌∙◌, subst, inl, inr, arith}
-use Rattle.std.proofs.lemmas.Bool.{ne_eqb, leb-true, ltb-false, cases_eq, cases_lt}
+use Rattle.std.proofs.lemmas.Bool.{ne_eqb, leb-true, ltb-false, cases_eq, cases_lt, eqb-true}
 use Rattle.std.specs.List.{AllByRecursion}
+use Rattle.std.specs.Prelude.{option_map, find}
 use Rattle.layout.specs.Meaning.{Meaning, Lawful}
 use Rattle.remembered.specs.Meaning.{Meaning as Remembers}
 use Rattle.model.specs.Calls.{Call, make, access, step, tally, Access, History}
@@ -34,14 +35,20 @@ pub old_none : (n x : ℕ) (os : List Obj) → n ≤ x → AllByRecursion (λ o.
 old_none n x [] h a = refl
 old_none n x (o ∷ os) h a = let k = a.0 in omega (arith, is_other x o (λ e. omega arith), old_none n x os h a.1)
 
--- the body that is found is that of one of the objects
-pub inside_body : (R : Body → Type 0) (os : List Obj) (x : ℕ) (b : Body) → AllByRecursion (λ o. R o.body) os → inside os x ≡ Some b → R b
-inside_body R [] x b a e = let z : ◌≡◌ {A = ℕ} 0 1 = cc in absurd (omega arith)
-inside_body R (o ∷ os) x b a e = go (inside_body R os x b a.1) (eqb x o.id) e
+-- what is found is the body of one of the objects
+pub inside_all : (P : Obj → Type 0) (os : List Obj) (x : ℕ) (b : Body) → inside os x ≡ Some b → AllByRecursion P os → P (record { id = x; body = b })
+inside_all P [] x b e h = absurd (let z : ◌≡◌ {A = ℕ} 0 1 = cc in omega arith)
+inside_all P (o ∷ os) x b e h = go (λ q. inside_all P os x b q h.1) (eqb x o.id) refl e
   where
-    go : (inside os x ≡ Some b → R b) → (c : Bool) → ◌≡◌ {A = Option Body} (elim c [ true ↦ Some o.body | false ↦ inside os x ]) (Some b) → R b
-    go more true q = let same : o.body ≡ b = cc in subst R same a.0
-    go more false q = more q
+    go : (inside os x ≡ Some b → P (record { id = x; body = b })) → (t : Bool) → eqb x o.id ≡ t → option_map (λ p. p.body) (cond t (Some o) (find (λ p. eqb x p.id) os)) ≡ Some b → P (record { id = x; body = b })
+    go more true q e =
+        let i : o.id ≡ x = sym (eqb-true x o.id q) in
+        let j : o.body ≡ b = cc in
+        subst (λ (c : Body). P (record { id = x; body = c })) j (subst (λ (y : ℕ). P (record { id = y; body = o.body })) i h.0)
+    go more false q e = more e
+
+pub inside_body : (R : Body → Type 0) (os : List Obj) (x : ℕ) (b : Body) → AllByRecursion (λ o. R o.body) os → inside os x ≡ Some b → R b
+inside_body R os x b a e = inside_all (λ o. R o.body) os x b e a
 
 no_ref : (n i y : ℕ) → get_or (replicate {A = Option ℕ} n None) i None ≡ Some y → ⊥
 no_ref zero i y e = let z : ◌≡◌ {A = ℕ} 0 1 = cc in omega arith

@@ -1,5 +1,5 @@
 -- The references from outside the first train, and the trains that wishes send to.
-use Rattle.std.proofs.Common.{◌≡◌, ℕ, ◌+◌, ◌<◌, ◌≤◌, Bool, true, false, List, [], ◌∷◌, ◌++◌, length, Some, None, Option, sym, refl, ap, ◌∙◌, subst, inl, inr, append_assoc, arith}
+use Rattle.std.proofs.Common.{◌≡◌, ℕ, ◌+◌, ◌<◌, ◌≤◌, Bool, true, false, List, [], ◌∷◌, ◌++◌, length, Some, None, Option, sym, refl, ap, ◌∙◌, subst, inl, inr, append_assoc, arith, cond}
 use Rattle.std.proofs.lemmas.Bool.{ltb-true, ltb-false}
 use Rattle.std.specs.List.{AllByRecursion}
 use Rattle.model.specs.Bodies.{Roots}
@@ -17,7 +17,7 @@ first_none os [] e = tt
 first_none os (w ∷ ws) e = go (first_none os ws) (among w.who os) refl e
   where
     go : (first_to os ws ≡ None → AllByRecursion (λ w. times w.who os ≡ 0) ws) → (b : Bool) → among w.who os ≡ b
-        → ◌≡◌ {A = Option Wish} (elim b [ true ↦ Some w | false ↦ first_to os ws ]) None → AllByRecursion (λ w. times w.who os ≡ 0) (w ∷ ws)
+        → ◌≡◌ {A = Option Wish} (cond b (Some w) (first_to os ws)) None → AllByRecursion (λ w. times w.who os ≡ 0) (w ∷ ws)
     go more true q n = let z : ◌≡◌ {A = ℕ} 0 1 = cc in absurd (omega arith)
     go more false q n = (omega (arith, ltb-false 0 (times w.who os) q), more n)
 
@@ -28,7 +28,7 @@ first_some P os [] w e a = let z : ◌≡◌ {A = ℕ} 0 1 = cc in absurd (omega
 first_some P os (v ∷ ws) w e a = go (λ n. first_some P os ws w n a.1) (among v.who os) refl e
   where
     go : (first_to os ws ≡ Some w → (1 ≤ times w.who os) × Wished w.who ws × P w) → (b : Bool) → among v.who os ≡ b
-        → ◌≡◌ {A = Option Wish} (elim b [ true ↦ Some v | false ↦ first_to os ws ]) (Some w) → (1 ≤ times w.who os) × Wished w.who (v ∷ ws) × P w
+        → ◌≡◌ {A = Option Wish} (cond b (Some v) (first_to os ws)) (Some w) → (1 ≤ times w.who os) × Wished w.who (v ∷ ws) × P w
     go more true q n =
         let same : v ≡ w = cc in
         subst (λ u. (1 ≤ times u.who os) × Wished u.who (v ∷ ws) × P u) same (ltb-true 0 (times v.who os) q, inl refl, a.0)

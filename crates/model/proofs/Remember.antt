@@ -3,6 +3,7 @@ use Rattle.std.proofs.Common.{◌≡◌, ℕ, zero, suc, ◌+◌, ◌*◌, ◌<�
 use lib.ListN.{length-replicate}
 use Rattle.std.proofs.lemmas.Bool.{eqb-false, ltb-false, or_parts}
 use Rattle.std.specs.List.{AllByRecursion}
+use Rattle.std.specs.Prelude.{map}
 use Rattle.layout.specs.Meaning.{Meaning, Lawful}
 use Rattle.remembered.specs.Meaning.{Row, forget}
 use Rattle.remembered.specs.Meaning.{Meaning as Remembers, Lawful as RemembersLawfully}
@@ -11,7 +12,7 @@ use Rattle.model.specs.Bodies.{Shape, Body, fresh, size, with_ref, with_value, i
 use Rattle.model.specs.Trains.{Distinct, Obj, Car, Train, Trains, train_objects, objects, words_of, words_in_use, obj_size, times, among, car_numbers, numbers, one_of, lowest_free, place_at, arrival, inside, alter, car_words}
 use Rattle.model.specs.Claims.{Wish, Claim}
 use Rattle.model.specs.Step.{first_to, outside, wishes, claimed, place_all}
-use Rattle.model.specs.Notes.{Seat, seat, Slot, train_slots, slots, notes, target_among, touched, is_slot, tell, forget_all}
+use Rattle.model.specs.Notes.{Seat, seat, Slot, train_slots, slots, notes, target_among, touched, is_slot, tell}
 use Rattle.model.specs.Space.{Model, all_objects, space_make, made_by, has_room, space_with, carried, trains_after, step_by, step_on, act, space_of}
 use Rattle.model.specs.Remembered.{NoReferenceIsOverlooked}
 use Rattle.model.proofs.Totals.{total-++, claims-total, place_at-total}
@@ -256,11 +257,11 @@ untouched os s y e t =
     (omega (arith, ltb-false 0 (times s.holder os) k.0), omega (arith, ltb-false 0 (times y os) h))
 
 module _ (M : Meaning) (law : Lawful M) (has : Remembers) (told-law : RemembersLawfully has) where
-  train_remembers : (t : Train) (ts : Trains) (r : Row) → Remembering M has (t ∷ ts) r → Remembering M has ts (tell (forget_all (car_numbers t)) r)
+  train_remembers : (t : Train) (ts : Trains) (r : Row) → Remembering M has (t ∷ ts) r → Remembering M has ts (tell (map forget (car_numbers t)) r)
   train_remembers t ts r rem = record {
     numbered = numbered_right t (cars_in_row ts) rem.numbered;
     shaped = all_right (λ o. Shaped M o.body) (train_objects t) (objects ts) rem.shaped;
-    noted = noted_with M has r (tell (forget_all (car_numbers t)) r) Always Always (cars_in_row ts) (noted_right M has r Always t (cars_in_row ts) rem.noted)
+    noted = noted_with M has r (tell (map forget (car_numbers t)) r) Always Always (cars_in_row ts) (noted_right M has r Always t (cars_in_row ts) rem.noted)
         (cars_all M (λ a x i h. (y : ℕ) → h ≡ Some y → Always x i y → Always x i y) (λ a x i h y e u. u) (cars_in_row ts))
         (λ n a o u. forgets_keep has told-law (car_numbers t) r n a (numbered_apart t (cars_in_row ts) rem.numbered n o) u);
   }

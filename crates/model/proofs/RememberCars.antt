@@ -1,9 +1,10 @@
 -- AllByRecursion cars in one row: seats, slots and numbers go by it, and placing an object changes it at one place.
 use Rattle.std.proofs.Common.{◌≡◌, ℕ, zero, suc, ◌+◌, ◌*◌, ◌<◌, ◌≤◌, Bool, true, false, eqb, ◌⊎◌, List, [], ◌∷◌, ◌++◌, length, Some, None, Option, sym, refl, ap, ◌∙◌, subst, inl, inr, append_assoc, arith}
 use Rattle.std.proofs.lemmas.Bool.{both_ways, cases_Bool, eqb-false, ltb-true, ltb-false, or_parts, or_from}
+use Rattle.std.specs.Prelude.{map}
 use Rattle.layout.specs.Meaning.{Meaning}
 use Rattle.model.specs.Bodies.{Body}
-use Rattle.model.specs.Trains.{Distinct, Obj, Car, Train, Trains, train_objects, objects, times, is, among, car_numbers, numbers, one_of, fits, with_object, opened, place, place_at, alter_objects, alter_train, alter, car_words}
+use Rattle.model.specs.Trains.{Distinct, Obj, Car, Train, Trains, train_objects, objects, times, is, among, car_numbers, numbers, one_of, fits, with_object, opened, place, place_at, alter_train, alter, car_words, alter_object}
 use Rattle.model.specs.Step.{trim}
 use Rattle.model.specs.Notes.{Seat, train_seat, seat, object_slots, train_slots, slots}
 use Rattle.model.proofs.Distinct.{one_of_here, one_of_there, one_of_head, one_of_apart, one_of_right}
@@ -61,7 +62,7 @@ row_slots M n (t ∷ ts) = ap (λ ss. train_slots M n t ++ ss) (row_slots M (n +
 alter_train-++ : (x : ℕ) (g : Body → Body) (t u : Train) → alter_train x g (t ++ u) ≡ alter_train x g t ++ alter_train x g u
 alter_train-++ x g [] u = refl
 alter_train-++ x g (c ∷ t) u =
-    let d : Car = record { number = c.number; objects = alter_objects x g c.objects } in
+    let d : Car = record { number = c.number; objects = map (alter_object x g) c.objects } in
     ap (λ (v : Train). d ∷ v) (alter_train-++ x g t u)
 
 pub row_alter : (x : ℕ) (g : Body → Body) (ts : Trains) → cars_in_row (alter x g ts) ≡ alter_train x g (cars_in_row ts)

@@ -2,11 +2,12 @@
 use Rattle.std.proofs.Common.{◌≡◌, ℕ, zero, suc, ◌+◌, ◌*◌, ◌<◌, ◌≤◌, Bool, true, false, cond, ◌&&◌, eqb, List, [], ◌∷◌, ◌++◌, get_or, set, Some, None, Option, refl, ap, ◌∙◌, subst, inl, inr, arith}
 use Rattle.std.proofs.lemmas.Bool.{both_ways, eqb-true, eq-eqb, and_from, lt-ltb, ltb-true, cases_lt}
 use Rattle.std.specs.List.{AllByRecursion}
+use Rattle.std.specs.Prelude.{map}
 use Rattle.layout.specs.Meaning.{Meaning}
 use Rattle.remembered.specs.Meaning.{Row}
 use Rattle.remembered.specs.Meaning.{Meaning as Remembers}
 use Rattle.model.specs.Bodies.{Shape, Body, size, with_ref, with_value}
-use Rattle.model.specs.Trains.{Obj, Car, Train, train_objects, times, is, one_if, among, car_numbers, one_of, with_object, opened, alter_object, alter_objects, alter_train, car_words}
+use Rattle.model.specs.Trains.{Obj, Car, Train, train_objects, times, is, one_if, among, car_numbers, one_of, with_object, opened, alter_object, alter_train, car_words}
 use Rattle.model.specs.Notes.{Seat, train_seat, Slot, ref_slots, object_slots, train_slots}
 use Rattle.model.proofs.Totals.{total-++}
 use Rattle.model.proofs.Alls.{all_left, all_right, all_++, all_with}
@@ -198,11 +199,11 @@ module _ (M : Meaning) (has : Remembers) (r : Row) (E : ℕ → ℕ → ℕ → 
 
 module _ (M : Meaning) (x : ℕ) (g : Body → Body) (keeps : (b : Body) → size (g b) ≡ size b) where
   module _ (Q R : ℕ → ℕ → ℕ → Option ℕ → Type 0) (own : (o : Obj) (a : ℕ) → InObject M Q a o → InObject M R a (alter_object x g o)) where
-    objects_altered : (a : ℕ) (os : List Obj) → InObjects M Q a os → InObjects M R a (alter_objects x g os)
+    objects_altered : (a : ℕ) (os : List Obj) → InObjects M Q a os → InObjects M R a (map (alter_object x g) os)
     objects_altered a [] p = tt
     objects_altered a (o ∷ os) p =
         let e : a + size o.body ≡ a + size (alter_object x g o).body = omega (arith, alter-size x g keeps o) in
-        (own o a p.0, subst (λ (b : ℕ). InObjects M R b (alter_objects x g os)) e (objects_altered (a + size o.body) os p.1))
+        (own o a p.0, subst (λ (b : ℕ). InObjects M R b (map (alter_object x g) os)) e (objects_altered (a + size o.body) os p.1))
 
     pub cars_altered : (t : Train) → InCars M Q t → InCars M R (alter_train x g t)
     cars_altered [] p = tt
@@ -213,7 +214,7 @@ module _ (M : Meaning) (x : ℕ) (g : Body → Body) (keeps : (b : Body) → siz
     pub noted_altered : (t : Train) → Noted M has r E t → Noted M has r F (alter_train x g t)
     noted_altered [] p = tt
     noted_altered (c ∷ cs) p =
-        let d : Car = record { number = c.number; objects = alter_objects x g c.objects } in
+        let d : Car = record { number = c.number; objects = map (alter_object x g) c.objects } in
         let q = cars_altered (ToldOf has r E c) (ToldOf has r F c) (own c) cs p.0 in (
           cars_with M (ToldOf has r F c) (ToldOf has r F c) (ToldOf has r F d)
               (λ a z i h u v y e l k. u y e (omega (arith, l, alter-times x g y c.objects)) k) (alter_train x g cs) q q,

@@ -1,11 +1,12 @@
 -- What a remembered set has after notes and forgets.
-use Rattle.std.proofs.Common.{◌≡◌, ℕ, ◌<◌, Bool, true, false, eqb, ltb, List, [], ◌∷◌, ◌++◌, Some, None, Option, sym, refl, subst}
+use Rattle.std.proofs.Common.{◌≡◌, ℕ, ◌<◌, Bool, true, false, eqb, ltb, List, [], ◌∷◌, ◌++◌, Some, None, Option, sym, refl, subst, cond}
 use Rattle.std.proofs.lemmas.Bool.{both_ways, eqb-false, or_parts, lt-ltb}
 use Rattle.std.specs.List.{AllByRecursion}
+use Rattle.std.specs.Prelude.{map, filter, flat_map}
 use Rattle.remembered.specs.Meaning.{Told, note, forget, Row}
 use Rattle.remembered.specs.Meaning.{Meaning as Remembers, Lawful as RemembersLawfully}
 use Rattle.model.specs.Trains.{Trains, one_of}
-use Rattle.model.specs.Notes.{Seat, seat, Slot, note_by, note_of, notes, tell, forget_all}
+use Rattle.model.specs.Notes.{Seat, seat, Slot, note_by, note_of, notes, tell}
 
 tell-++ : (xs ys : List Told) (r : Row) → tell (xs ++ ys) r ≡ tell ys (tell xs r)
 tell-++ [] ys r = refl
@@ -28,7 +29,7 @@ module _ (has : Remembers) (law : RemembersLawfully has) where
   notes_keep ts test [] r n a p = p
   notes_keep ts test (s ∷ ss) r n a p = go (λ q. notes_keep ts test ss q n a) (test s)
     where
-      go : ((q : Row) → has q n a ≡ true → has (tell (notes ts test ss) q) n a ≡ true) → (b : Bool) → has (tell (elim b [ true ↦ note_of ts s s.target ++ notes ts test ss | false ↦ notes ts test ss ]) r) n a ≡ true
+      go : ((q : Row) → has q n a ≡ true → has (tell (notes ts test ss) q) n a ≡ true) → (b : Bool) → has (tell (flat_map (λ v. note_of ts v v.target) (cond b (s ∷ filter test ss) (filter test ss))) r) n a ≡ true
       go more true =
           subst (λ (q : Row). has q n a ≡ true) (sym (tell-++ (note_of ts s s.target) (notes ts test ss) r))
           (more (tell (note_of ts s s.target) r) (note_of_keeps ts s s.target r n a p))
@@ -56,7 +57,7 @@ notes_gain has law ts test (s ∷ ss) r = go (test s) refl (notes_gain has law t
     go : (b : Bool) → test s ≡ b
         → AllByRecursion (Gained has ts test (tell (notes ts test ss) (tell (note_of ts s s.target) r))) ss
         → AllByRecursion (Gained has ts test (tell (notes ts test ss) r)) ss
-        → AllByRecursion (Gained has ts test (tell (elim b [ true ↦ note_of ts s s.target ++ notes ts test ss | false ↦ notes ts test ss ]) r)) (s ∷ ss)
+        → AllByRecursion (Gained has ts test (tell (flat_map (λ v. note_of ts v v.target) (cond b (s ∷ filter test ss) (filter test ss))) r)) (s ∷ ss)
     go true e more less =
         subst (λ (q : Row). AllByRecursion (Gained has ts test q) (s ∷ ss)) (sym (tell-++ (note_of ts s s.target) (notes ts test ss) r)) (
           (λ t y c w q l m k.
@@ -66,7 +67,7 @@ notes_gain has law ts test (s ∷ ss) r = go (test s) refl (notes_gain has law t
     go false e more less = ((λ t. absurd (both_ways (test s) e t)), less)
 
 pub forgets_keep : (has : Remembers) → RemembersLawfully has → (ns : List ℕ) (r : Row) (n a : ℕ) → one_of n ns ≡ false → has r n a ≡ true
-    → has (tell (forget_all ns) r) n a ≡ true
+    → has (tell (map forget ns) r) n a ≡ true
 forgets_keep has law [] r n a o p = p
 forgets_keep has law (m ∷ ns) r n a o p =
     let k = or_parts (eqb n m) (one_of n ns) o in

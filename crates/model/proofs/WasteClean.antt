@@ -1,6 +1,5 @@
 -- Waste stays behind: what was unreachable at a halt is never held again, and never lies in a later train than it may.
 use Rattle.std.proofs.Common.{◌≡◌, ℕ, zero, suc, pred, ◌+◌, ◌-◌, ◌≤◌, Bool, true, false, cond, eqb, List, [], ◌∷◌, ◌++◌, get_or, replicate, Some, None, Option, sym, refl, subst, arith}
-use Rattle.std.proofs.lemmas.Bool.{eqb-true}
 use Rattle.std.specs.List.{AllByRecursion}
 use Rattle.layout.specs.Meaning.{Meaning}
 use Rattle.remembered.specs.Meaning.{Meaning as Remembers}
@@ -14,7 +13,7 @@ use Rattle.model.specs.Sound.{Points}
 use Rattle.model.proofs.Alls.{all_left, all_right, place_train_all, place_at_all, all_++}
 use Rattle.model.proofs.Alters.{objects-alter, train_alter, alter_all, set_either}
 use Rattle.model.proofs.Effects.{Brings, brings}
-use Rattle.model.proofs.Keeps.{step_all}
+use Rattle.model.proofs.Keeps.{step_all, inside_all}
 use Rattle.model.proofs.WasteClaims.{Leads, Sent, Goes, claims_of, ref_sent, train_sent}
 
 abbrev pub Not : (ℕ → Type 0) → ℕ → Type 0
@@ -25,19 +24,6 @@ pub record Apart (G : ℕ → Type 0) (m : Model) : Type 0 where
   pub new : (x : ℕ) → m.made ≤ x → Not G x
   pub roots : (r x : ℕ) → held m.roots r ≡ Some x → Not G x
   pub leads : AllByRecursion (Leads (Not G)) (all_objects m)
-
--- the object of an identity that is found
-inside_all : (P : Obj → Type 0) (os : List Obj) (x : ℕ) (b : Body) → inside os x ≡ Some b → AllByRecursion P os → P (record { id = x; body = b })
-inside_all P [] x b e h = absurd (let z : ◌≡◌ {A = ℕ} 0 1 = cc in omega arith)
-inside_all P (o ∷ os) x b e h = go (λ r. inside_all P os x b r h.1) (eqb x o.id) refl e
-  where
-    go : (inside os x ≡ Some b → P (record { id = x; body = b })) → (t : Bool) → eqb x o.id ≡ t
-        → elim t [ true ↦ Some o.body | false ↦ inside os x ] ≡ Some b → P (record { id = x; body = b })
-    go more true q e =
-        let i : o.id ≡ x = sym (eqb-true x o.id q) in
-        let j : o.body ≡ b = cc in
-        subst (λ (c : Body). P (record { id = x; body = c })) j (subst (λ (y : ℕ). P (record { id = y; body = o.body })) i h.0)
-    go more false q e = more e
 
 none_held : (n i y : ℕ) → get_or (replicate n None) i None ≡ Some y → ⊥
 none_held zero i y e = let z : ◌≡◌ {A = ℕ} 0 1 = cc in omega arith

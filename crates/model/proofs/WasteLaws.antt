@@ -1,18 +1,19 @@
 -- The laws of waste.
-use Rattle.std.proofs.Common.{◌≡◌, ℕ, zero, suc, ◌+◌, ◌-◌, ◌*◌, ◌<◌, ◌≤◌, Bool, true, false, eqb, ◌⊎◌, List, [], ◌∷◌, ◌++◌, length, get_or, Some, Option, sym, refl, ap, subst, inl, inr, arith}
+use Rattle.std.proofs.Common.{◌≡◌, ℕ, zero, suc, ◌+◌, ◌-◌, ◌*◌, ◌<◌, ◌≤◌, Bool, true, false, eqb, ◌⊎◌, List, [], ◌∷◌, ◌++◌, length, get_or, Some, Option, sym, refl, ap, subst, inl, inr, arith, cond}
 use lib.ListN.{get_or-eq_default}
 use Rattle.std.proofs.lemmas.Bool.{eq-eqb, eqb-true, or_from, cases_lt, cases_Bool, both_ways}
-use Rattle.std.specs.List.{AllByRecursion}
+use Rattle.std.specs.List.{AllByRecursion, range_with_len}
+use Rattle.std.specs.Prelude.{slice_get, option_map, find}
 use Rattle.layout.specs.Meaning.{Meaning, Lawful}
 use Rattle.remembered.specs.Meaning.{Meaning as Remembers}
 use Rattle.model.specs.Calls.{History}
 use Rattle.model.specs.Bodies.{Body, Roots, size}
-use Rattle.model.specs.Plain.{entry, graph_of}
+use Rattle.model.specs.Plain.{graph_of}
 use Rattle.model.specs.Trains.{Distinct, Obj, Train, Trains, train_objects, objects, words_of, one_of, times, is, one_if, inside}
 use Rattle.model.specs.Step.{Mark}
 use Rattle.model.specs.Space.{Model, all_objects, space_of, Use}
 use Rattle.model.specs.Reach.{by_root, by_ref, SpaceReaches, Unreachable}
-use Rattle.model.specs.Laws.{steps, train_steps, WasteUpTo, GoneAfter, WasteNearTheFrontLeavesSooner, WasteLeavesInCountedSteps, size_of, sizes, numbered, WordsInUseAreOfTheReachableAndTheNew}
+use Rattle.model.specs.Laws.{steps, train_steps, WasteUpTo, GoneAfter, WasteNearTheFrontLeavesSooner, WasteLeavesInCountedSteps, size_of, sizes, WordsInUseAreOfTheReachableAndTheNew}
 use Rattle.model.proofs.Totals.{total-++}
 use Rattle.model.specs.Sound.{SoundAt, Sound}
 use Rattle.model.proofs.Distinct.{sum_by, sum_within, one_of_head, one_of_left, one_of_right, in_numbered}
@@ -32,19 +33,19 @@ inside_lies : (os : List Obj) (x : ℕ) (b : Body) → inside os x ≡ Some b �
 inside_lies [] x b e = absurd (let z : ◌≡◌ {A = ℕ} 0 1 = cc in omega arith)
 inside_lies (o ∷ os) x b e = go (inside_lies os x b) (eqb x o.id) e
   where
-    go : (inside os x ≡ Some b → 1 ≤ times x os) → (t : Bool) → elim t [ true ↦ Some o.body | false ↦ inside os x ] ≡ Some b → 1 ≤ one_if t + times x os
+    go : (inside os x ≡ Some b → 1 ≤ times x os) → (t : Bool) → option_map (λ p. p.body) (cond t (Some o) (find (λ p. eqb x p.id) os)) ≡ Some b → 1 ≤ one_if t + times x os
     go more true e = omega arith
     go more false e = omega (arith, more e)
 
 inside_self : (os : List Obj) → ((x : ℕ) → times x os ≤ 1) → AllByRecursion (λ o. inside os o.id ≡ Some o.body) os
 inside_self [] h = tt
 inside_self (o ∷ os) h = (
-  ap (λ (t : Bool). elim t [ true ↦ Some o.body | false ↦ inside os o.id ]) (eq-eqb o.id o.id refl),
+  ap (λ (t : Bool). option_map (λ (p : Obj). p.body) (cond t (Some o) (find (λ (p : Obj). eqb o.id p.id) os))) (eq-eqb o.id o.id refl),
   all_map (λ p. inside os p.id ≡ Some p.body) (λ p. inside (o ∷ os) p.id ≡ Some p.body) (λ p e. go p e (eqb p.id o.id) refl) os
       (inside_self os (λ x. omega (arith, h x))),
 )
   where
-    go : (p : Obj) → inside os p.id ≡ Some p.body → (t : Bool) → eqb p.id o.id ≡ t → elim t [ true ↦ Some o.body | false ↦ inside os p.id ] ≡ Some p.body
+    go : (p : Obj) → inside os p.id ≡ Some p.body → (t : Bool) → eqb p.id o.id ≡ t → option_map (λ q. q.body) (cond t (Some o) (find (λ q. eqb p.id q.id) os)) ≡ Some p.body
     go p e true q = absurd (let z : is p.id o ≡ 1 = ap one_if q in omega (arith, z, h p.id, inside_lies os p.id p.body e))
     go p e false q = e
 
@@ -154,7 +155,7 @@ distinct : (os : List Obj) → ((x : ℕ) → times x os ≤ 1) → Distinct (id
 distinct [] h = tt
 distinct (o ∷ os) h = (not_there o.id os (omega (arith, self o, h o.id)), distinct os (λ x. omega (arith, h x)))
 
-sizes_by : (es : List Body) (xs : List ℕ) → sum_by (λ x. size_of (entry es x)) xs ≡ sizes es xs
+sizes_by : (es : List Body) (xs : List ℕ) → sum_by (λ x. size_of (slice_get es x)) xs ≡ sizes es xs
 sizes_by es [] = refl
 sizes_by es (x ∷ xs) = omega (arith, sizes_by es xs)
 
@@ -164,7 +165,7 @@ sizes-++ es (x ∷ xs) ys = omega (arith, sizes-++ es xs ys)
 
 words_by : (es : List Body) (os : List Obj) → AllByRecursion (Twin es) os → words_of os ≡ sizes es (identities os)
 words_by es [] t = refl
-words_by es (o ∷ os) t = let e : size_of (entry es o.id) ≡ size o.body = ap size_of t.0 in omega (arith, e, words_by es os t.1)
+words_by es (o ∷ os) t = let e : size_of (slice_get es o.id) ≡ size o.body = ap size_of t.0 in omega (arith, e, words_by es os t.1)
 
 all_one_of : (os : List Obj) (ys : List ℕ) → AllByRecursion (λ o. one_of o.id ys ≡ true) os → (x : ℕ) → one_of x (identities os) ≡ true → one_of x ys ≡ true
 all_one_of [] ys h x e = absurd (both_ways false refl e)
@@ -183,29 +184,29 @@ words-within es os xs ys once twins known =
       sizes_by es (identities os),
       sizes_by es (xs ++ ys),
       sizes-++ es xs ys,
-      sum_within (λ x. size_of (entry es x)) (identities os) (xs ++ ys) (distinct os once) (all_one_of os (xs ++ ys) known),
+      sum_within (λ x. size_of (slice_get es x)) (identities os) (xs ++ ys) (distinct os once) (all_one_of os (xs ++ ys) known),
     )
 
 -- each object in a car was reachable at the halt or is new
 known_all : (m n : Model) (xs : List ℕ) → ((x : ℕ) → SpaceReaches m x → one_of x xs ≡ true) → ((x : ℕ) → Unreachable m x → times x (all_objects n) ≡ 0)
     → (os : List Obj) → AllByRecursion (λ o. o.id < n.made) os → AllByRecursion (λ o. 1 ≤ times o.id (all_objects n)) os
-    → AllByRecursion (λ o. one_of o.id (xs ++ numbered m.made (n.made - m.made)) ≡ true) os
+    → AllByRecursion (λ o. one_of o.id (xs ++ range_with_len m.made (n.made - m.made)) ≡ true) os
 known_all m n xs reach gone [] old lies = tt
 known_all m n xs reach gone (o ∷ os) old lies = (known (cases_lt o.id m.made), known_all m n xs reach gone os old.1 lies.1)
   where
-    known : (o.id < m.made) ⊎ (m.made ≤ o.id) → one_of o.id (xs ++ numbered m.made (n.made - m.made)) ≡ true
+    known : (o.id < m.made) ⊎ (m.made ≤ o.id) → one_of o.id (xs ++ range_with_len m.made (n.made - m.made)) ≡ true
     known (inl l) = elim (cases_Bool (one_of o.id xs)) [
-      | inl e ↦ one_of_left o.id xs (numbered m.made (n.made - m.made)) e
+      | inl e ↦ one_of_left o.id xs (range_with_len m.made (n.made - m.made)) e
       | inr e ↦ absurd (omega (arith, lies.0, gone o.id (record { old = l; unreached = λ r. both_ways (one_of o.id xs) e (reach o.id r) })))
     ]
-    known (inr g) = one_of_right o.id xs (numbered m.made (n.made - m.made)) (in_numbered o.id m.made (n.made - m.made) g (omega (arith, old.0, g)))
+    known (inr g) = one_of_right o.id xs (range_with_len m.made (n.made - m.made)) (in_numbered o.id m.made (n.made - m.made) g (omega (arith, old.0, g)))
 
 pub words_of_the_reachable_and_the_new : WordsInUseAreOfTheReachableAndTheNew
 words_of_the_reachable_and_the_new M law has h more u many xs reach =
     let m = space_of M has h in
     let n = space_of M has (more ++ h) in
     let s = sound_of M law has (more ++ h) in
-    words-within (graph_of M (more ++ h)).entries (all_objects n) xs (numbered m.made (n.made - m.made)) s.once (sim_of M law has (more ++ h) u).twins
+    words-within (graph_of M (more ++ h)).entries (all_objects n) xs (range_with_len m.made (n.made - m.made)) s.once (sim_of M law has (more ++ h) u).twins
     (known_all m n xs reach (λ x g. waste_leaves M law has h (first_use more u) more u many x g) (all_objects n) s.old (each_lies (all_objects n)))
   where
     first_use : (more : History) → Use M has (more ++ h) → Use M has h

@@ -2,8 +2,9 @@
 use Rattle.std.proofs.Common.{◌≡◌, ℕ, zero, suc, ◌+◌, ◌*◌, ◌≤◌, Bool, true, false, cond, eqb, ltb, List, [], ◌∷◌, ◌++◌, length, Some, None, Option, sym, refl, ap, ◌∙◌, subst, inl, inr, arith}
 use Rattle.std.proofs.lemmas.Bool.{lt-ltb, ltb-true, ltb-false, ne_eqb, cases_lt}
 use Rattle.std.specs.List.{AllByRecursion}
+use Rattle.std.specs.Prelude.{map}
 use Rattle.model.specs.Bodies.{Body, Roots}
-use Rattle.model.specs.Trains.{Obj, Car, Train, Trains, train_objects, objects, total, words_of, obj_size, place, place_at, fits, with_object, opened, numbers, lowest_free, times, among, is, one_if, alter_objects, alter_train}
+use Rattle.model.specs.Trains.{Obj, Car, Train, Trains, train_objects, objects, total, words_of, obj_size, place, place_at, fits, with_object, opened, numbers, lowest_free, times, among, is, one_if, alter_train, alter_object}
 use Rattle.model.specs.Claims.{Wish, Claim}
 use Rattle.model.specs.Step.{Mark, first_to, outside, wishes, place_all, is_zero, out_of, back_of, claimed, mark_after, guard}
 use Rattle.model.specs.Space.{Model, carried}
@@ -213,14 +214,14 @@ module _ (f : Car) (cs : Train) (ts : Trains) (m : Model) (s : SoundAt m.made m.
 
 -- altering a body changes neither number
 module _ (y : ℕ) (g : Body → Body) where
-  count-objects : (os : List Obj) → total one (alter_objects y g os) ≡ total one os
+  count-objects : (os : List Obj) → total one (map (alter_object y g) os) ≡ total one os
   count-objects [] = refl
   count-objects (o ∷ os) = omega (arith, count-objects os)
 
   pub count-alter : (t : Train) → total one (train_objects (alter_train y g t)) ≡ total one (train_objects t)
   count-alter [] = refl
   count-alter (c ∷ cs) =
-      omega (arith, total-++ one (alter_objects y g c.objects) (train_objects (alter_train y g cs)), total-++ one c.objects (train_objects cs), count-objects c.objects, count-alter cs)
+      omega (arith, total-++ one (map (alter_object y g) c.objects) (train_objects (alter_train y g cs)), total-++ one c.objects (train_objects cs), count-objects c.objects, count-alter cs)
 
   pub spot-alter : (x : ℕ) (t : Train) → spot x (alter_train y g t) ≡ spot x t
   spot-alter x [] = refl

@@ -1,5 +1,6 @@
 -- What an object has inside, and what a call on the roots' objects answers and changes.
-use Rattle.std.specs.Prelude.{ℕ, ◌+◌, ◌-◌, Bool, true, false, ◌&&◌, List, length, replicate, ℤ, pos, negsuc, Some, None, Option, ◌==◌, nat_le, nat_lt, slice_index, slice_index_or, slice_set}
+use Rattle.std.specs.Prelude.{ℕ, ◌+◌, ◌-◌, Bool, true, false, ◌&&◌, List, length, replicate, ℤ, pos, negsuc, Some, None, Option, nat_le, nat_lt, slice_index, slice_index_or, slice_set, find, nat_eq}
+use Rattle.std.specs.Option.{option_eq}
 use Rattle.layout.specs.Meaning.{Meaning}
 use Rattle.model.specs.Calls.{Access, link, follow, drop, put, lift, get, words, same, Refusal, root, empty, missing, range, buffer, Answer, refused, done, value, wrote, alike}
 
@@ -95,12 +96,6 @@ abbrev pub store_lifted : (object word : ℕ) → Option ℕ → Reply
 store_lifted x w None = refuse range
 store_lifted x w (Some v) = reply done (store x w v)
 
-abbrev pub both_hold : Option ℕ → Option ℕ → Bool
-both_hold None None = true
-both_hold None (Some y) = false
-both_hold (Some x) None = false
-both_hold (Some x) (Some y) = x == y
-
 -- a call's answer and effect, where find tells what the object of an identity has inside
 abbrev pub reply_of : (ℕ → Option Body) → Roots → Access → Reply
 reply_of find rs (link r i q) =
@@ -116,7 +111,7 @@ reply_of find rs (get r w) =
     on_object (is_root r) (object_of find (held rs r)) (λ x b. unless (nat_lt w (length b.values)) missing (reply (value (slice_index b.values w)) leave))
 reply_of find rs (words r n) =
     on_object (is_root r) (object_of find (held rs r)) (λ x b. unless (nat_le (length b.values) n) buffer (reply (wrote b.values) leave))
-reply_of find rs (same r q) = unless (is_root r && is_root q) root (reply (alike (both_hold (held rs r) (held rs q))) leave)
+reply_of find rs (same r q) = unless (is_root r && is_root q) root (reply (alike (option_eq nat_eq (held rs r) (held rs q))) leave)
 
 pub record Outcome (S : Type 0) : Type 0 where
   pub state : S

@@ -1,5 +1,6 @@
 -- Which objects a step carries out of a car, in which order, and to which train.
-use Rattle.std.specs.Prelude.{ℕ, zero, suc, ◌+◌, Bool, true, false, List, [], ◌∷◌, ◌++◌, length, Some, None, Option, ◌==◌}
+use Rattle.std.specs.Prelude.{ℕ, zero, suc, Bool, true, false, List, [], ◌∷◌, ◌++◌, length, Some, None, Option, ◌==◌, flat_map, map, filter_map, option_map}
+use Rattle.std.specs.List.{enumerate_from}
 use Rattle.model.specs.Trains.{Obj, Train, Trains}
 
 -- a reference to an identity, with the rank of the train that its object is to go to
@@ -7,24 +8,22 @@ pub record Wish : Type 0 where
   pub who : ℕ
   pub rank : ℕ
 
+abbrev pub wish : (rank who : ℕ) → Wish
+wish k x = record { who = x; rank = k }
+
 abbrev pub ref_wishes : ℕ → List (Option ℕ) → List Wish
-ref_wishes k [] = []
-ref_wishes k (None ∷ rs) = ref_wishes k rs
-ref_wishes k (Some x ∷ rs) = record { who = x; rank = k } ∷ ref_wishes k rs
+ref_wishes k rs = filter_map (option_map (wish k)) rs
 
 abbrev pub object_wishes : ℕ → List Obj → List Wish
-object_wishes k [] = []
-object_wishes k (o ∷ os) = ref_wishes k o.body.refs ++ object_wishes k os
+object_wishes k os = flat_map (λ o. ref_wishes k o.body.refs) os
 
 -- the slots of a train, by car and then by address
 abbrev pub train_wishes : ℕ → Train → List Wish
-train_wishes k [] = []
-train_wishes k (c ∷ cs) = object_wishes k c.objects ++ train_wishes k cs
+train_wishes k t = flat_map (λ c. object_wishes k c.objects) t
 
 -- the slots of all trains from the rank k on
 abbrev pub trains_wishes : ℕ → Trains → List Wish
-trains_wishes k [] = []
-trains_wishes k (t ∷ ts) = train_wishes k t ++ trains_wishes (k + 1) ts
+trains_wishes k ts = flat_map (λ p. train_wishes p.0 p.1) (enumerate_from k ts)
 
 -- objects taken, in order, and those left
 pub record Taken : Type 0 where
@@ -67,8 +66,7 @@ pub record Claim : Type 0 where
   pub rank : ℕ
 
 abbrev pub all_to : ℕ → List Obj → List Claim
-all_to k [] = []
-all_to k (o ∷ os) = record { object = o; rank = k } ∷ all_to k os
+all_to k os = map (λ o. record { object = o; rank = k }) os
 
 -- the objects carried, in order, with their ranks, and those that nothing claimed
 pub record Carried : Type 0 where

@@ -1,10 +1,11 @@
 -- The laws over whole uses, for every layout and every remembered set.
-use Rattle.std.specs.Prelude.{◌≡◌, ℕ, zero, suc, ◌+◌, ◌-◌, ◌*◌, ◌<◌, ◌≤◌, true, false, List, [], ◌∷◌, ◌++◌, length, take, Some, None, Option, slice_index_or}
+use Rattle.std.specs.Prelude.{◌≡◌, ℕ, ◌+◌, ◌-◌, ◌*◌, ◌<◌, ◌≤◌, true, false, List, [], ◌∷◌, ◌++◌, length, take, Some, None, Option, slice_index_or, slice_get}
+use Rattle.std.specs.List.{range_with_len}
 use Rattle.layout.specs.Meaning.{Meaning, Lawful}
 use Rattle.remembered.specs.Meaning.{Meaning as Remembers}
 use Rattle.model.specs.Calls.{Call, make, access, step, tally, full, refused, report, Report, Answer, Event, History, is_full}
 use Rattle.model.specs.Bodies.{Body, fresh, size, is_root}
-use Rattle.model.specs.Plain.{Graph, graph_of, plain, entry}
+use Rattle.model.specs.Plain.{Graph, graph_of, plain}
 use Rattle.model.specs.Trains.{Trains, train_objects, words_in_use, cars_in_use, numbers, one_of, Distinct, times, inside, capacity, car_count, car_words}
 use Rattle.model.specs.Step.{Mark, place_all}
 use Rattle.model.specs.Space.{Model, space_of, Use, all_objects, carried}
@@ -38,7 +39,7 @@ pub record SameReach (g : Graph) (m : Model) : Type 0 where
   pub forth : (x : ℕ) → GraphReaches g x → SpaceReaches m x
   pub back : (x : ℕ) → SpaceReaches m x → GraphReaches g x
   pub once : (x : ℕ) → GraphReaches g x → times x (all_objects m) ≡ 1
-  pub bodies : (x : ℕ) → GraphReaches g x → inside (all_objects m) x ≡ entry g.entries x
+  pub bodies : (x : ℕ) → GraphReaches g x → inside (all_objects m) x ≡ slice_get g.entries x
 
 pub record AnswersAsTheGraph (M : Meaning) (has : Remembers) (h : History) : Type 0 where
   pub answers : PlainAnswers M h
@@ -93,12 +94,7 @@ size_of (Some b) = size b
 
 abbrev pub sizes : List Body → List ℕ → ℕ
 sizes es [] = 0
-sizes es (x ∷ xs) = size_of (entry es x) + sizes es xs
-
--- the numbers from a on, n of them
-abbrev pub numbered : (a n : ℕ) → List ℕ
-numbered a zero = []
-numbered a (suc n) = a ∷ numbered (a + 1) n
+sizes es (x ∷ xs) = size_of (slice_get es x) + sizes es xs
 
 -- from so many steps on the words in use are those of the reachable and the new at most: xs has at least what is reachable
 -- at the halt, and what was made after it has the identities from there on
@@ -110,7 +106,7 @@ WordsBounded M has =
     → let m = space_of M has h in
     let n = space_of M has (more ++ h) in
     let es = (graph_of M (more ++ h)).entries in
-    words_in_use n.trains ≤ sizes es xs + sizes es (numbered m.made (n.made - m.made))
+    words_in_use n.trains ≤ sizes es xs + sizes es (range_with_len m.made (n.made - m.made))
 
 abbrev pub WordsInUseAreOfTheReachableAndTheNew : Type 0
 WordsInUseAreOfTheReachableAndTheNew = (M : Meaning) → Lawful M → (has : Remembers) → WordsBounded M has

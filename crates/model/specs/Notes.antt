@@ -1,7 +1,7 @@
 -- Slots with their addresses, and which of them the remembered set is told.
-use Rattle.std.specs.Prelude.{ℕ, ◌+◌, ◌*◌, Bool, true, false, ◌&&◌, ◌||◌, List, [], ◌∷◌, ◌++◌, length, Some, None, Option, ◌==◌, nat_lt}
+use Rattle.std.specs.Prelude.{ℕ, ◌+◌, ◌*◌, Bool, true, false, ◌&&◌, ◌||◌, List, [], ◌∷◌, ◌++◌, length, Some, None, Option, ◌==◌, nat_lt, flat_map, filter}
 use Rattle.layout.specs.Meaning.{Meaning}
-use Rattle.remembered.specs.Meaning.{Told, note, forget, Row}
+use Rattle.remembered.specs.Meaning.{Told, note, Row}
 use Rattle.model.specs.Bodies.{Shape, size}
 use Rattle.model.specs.Trains.{Obj, Train, Trains, among, car_words}
 
@@ -57,8 +57,7 @@ note_of ts s (Some y) = note_by (seat 0 y ts) s
 
 -- what is noted of the slots that pass a test, in their order
 abbrev pub notes : Trains → (Slot → Bool) → List Slot → List Told
-notes ts test [] = []
-notes ts test (s ∷ ss) = elim (test s) [ true ↦ note_of ts s s.target ++ notes ts test ss | false ↦ notes ts test ss ]
+notes ts test ss = flat_map (λ s. note_of ts s s.target) (filter test ss)
 
 abbrev pub target_among : List Obj → Option ℕ → Bool
 target_among os None = false
@@ -75,7 +74,3 @@ is_slot x i s = x == s.holder && i == s.index
 abbrev pub tell : List Told → Row → Row
 tell [] r = r
 tell (n ∷ ns) r = tell ns (n ∷ r)
-
-abbrev pub forget_all : List ℕ → List Told
-forget_all [] = []
-forget_all (n ∷ ns) = forget n ∷ forget_all ns

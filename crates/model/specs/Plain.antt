@@ -1,5 +1,5 @@
 -- The plain graph: nothing is ever lost in it. An object's identity is its entry's number.
-use Rattle.std.specs.Prelude.{ℕ, zero, suc, Bool, true, false, List, [], ◌∷◌, ◌++◌, length, replicate, Some, None, Option, slice_set}
+use Rattle.std.specs.Prelude.{ℕ, zero, suc, Bool, true, false, List, [], ◌∷◌, ◌++◌, length, replicate, Some, None, slice_set, slice_get}
 use Rattle.layout.specs.Meaning.{Meaning}
 use Rattle.model.specs.Calls.{Call, make, access, step, tally, root, shape, full, refused, done, History, is_full}
 use Rattle.model.specs.Bodies.{Body, Roots, fresh, with_ref, with_value, root_count, is_root, Effect, leave, hold, point, store, reply_of, Outcome, outcome}
@@ -10,11 +10,6 @@ pub record Graph : Type 0 where
 
 abbrev pub no_entries : Graph
 no_entries = record { entries = []; roots = replicate root_count None }
-
-abbrev pub entry : List Body → ℕ → Option Body
-entry [] x = None
-entry (b ∷ bs) zero = Some b
-entry (b ∷ bs) (suc x) = entry bs x
 
 abbrev pub alter_entry : ℕ → (Body → Body) → List Body → List Body
 alter_entry x f [] = []
@@ -38,7 +33,7 @@ plain_make true true false b r g =
 -- a step and a tally do nothing to the graph, and it gives no answer to them that anything rests on
 abbrev pub plain : Meaning → (was-full : Bool) → Call → Graph → Outcome Graph
 plain M was-full (make r k a b) g = plain_make (is_root r) (M.admits k a b) was-full (fresh M k a b) r g
-plain M was-full (access c) g = let p = reply_of (entry g.entries) g.roots c in outcome (with_effect p.effect g) p.answer
+plain M was-full (access c) g = let p = reply_of (slice_get g.entries) g.roots c in outcome (with_effect p.effect g) p.answer
 plain M was-full step g = outcome g done
 plain M was-full tally g = outcome g done
 

@@ -1,5 +1,5 @@
 -- The space: roots, trains, the mark, and what the remembered set was told; and what each call does to it.
-use Rattle.std.specs.Prelude.{◌≡◌, ℕ, suc, ◌+◌, Bool, true, false, List, [], ◌∷◌, length, replicate, Some, None, Option, nat_le, slice_set}
+use Rattle.std.specs.Prelude.{◌≡◌, ℕ, suc, ◌+◌, Bool, true, false, List, [], ◌∷◌, length, replicate, Some, None, Option, nat_le, slice_set, map, sum_by, is_some}
 use Rattle.layout.specs.Meaning.{Meaning}
 use Rattle.remembered.specs.Meaning.{Row, forget, pairs_of}
 use Rattle.remembered.specs.Meaning.{Meaning as Remembers}
@@ -8,7 +8,7 @@ use Rattle.model.specs.Bodies.{Body, Roots, fresh, size, with_ref, with_value, r
 use Rattle.model.specs.Trains.{Obj, Car, Train, Trains, train_objects, objects, words_in_use, cars_in_use, car_numbers, numbers, lowest_free, place_at, arrival, inside, alter, capacity}
 use Rattle.model.specs.Claims.{Wish, Carried, claims}
 use Rattle.model.specs.Step.{Mark, first_to, outside, wishes, place_all, trim, out_of, back_of, claimed, copied_of, mark_after, guard}
-use Rattle.model.specs.Notes.{slots, notes, touched, is_slot, tell, forget_all}
+use Rattle.model.specs.Notes.{slots, notes, touched, is_slot, tell}
 
 pub record Model : Type 0 where
   -- how many objects were made; the next one's identity
@@ -61,8 +61,7 @@ space_with M (store x w v) m = with_trains (alter x (with_value w v) m.trains) m
 
 -- all pairs that the set has for the cars of a train
 abbrev pub looked : (ℕ → ℕ → Bool) → Train → ℕ
-looked has [] = 0
-looked has (c ∷ cs) = pairs_of has c.number + looked has cs
+looked has t = sum_by (λ c. pairs_of has c.number) t
 
 abbrev pub nothing_done : Report
 nothing_done = record { kind = idle; out = 0; back = 0; copied = 0; lost = 0; looked = 0; cars = 0 }
@@ -71,7 +70,7 @@ nothing_done = record { kind = idle; out = 0; back = 0; copied = 0; lost = 0; lo
 abbrev pub free_train : Remembers → Train → Trains → Model → Outcome Model
 free_train has t ts m =
     outcome
-    (record { made = m.made; roots = m.roots; trains = ts; mark = None; told = tell (forget_all (car_numbers t)) m.told })
+    (record { made = m.made; roots = m.roots; trains = ts; mark = None; told = tell (map forget (car_numbers t)) m.told })
     (report (record { kind = train; out = 0; back = 0; copied = 0; lost = length (train_objects t); looked = looked (has m.told) t; cars = length t }))
 
 -- what is carried out of the first car
@@ -114,10 +113,6 @@ step_by M has (Some w) (f ∷ cs) ts m = free_car M has w f cs ts m
 abbrev pub step_on : Meaning → Remembers → Trains → Model → Outcome Model
 step_on M has [] m = outcome m (report nothing_done)
 step_on M has (t ∷ ts) m = step_by M has (first_to (train_objects t) (outside m.roots (t ∷ ts) ts)) t ts m
-
-abbrev pub is_some : Option Mark → Bool
-is_some None = false
-is_some (Some m) = true
 
 abbrev pub act : Meaning → Remembers → Call → Model → Outcome Model
 act M has (make r k a b) m = space_make (is_root r) (M.admits k a b) (has_room (fresh M k a b) m) (fresh M k a b) r m

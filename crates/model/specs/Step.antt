@@ -1,5 +1,5 @@
 -- A step: the first car of the first train is emptied and freed.
-use Rattle.std.specs.Prelude.{ℕ, zero, suc, ◌+◌, Bool, true, false, cond, List, [], ◌∷◌, ◌++◌, Some, None, Option, ◌==◌}
+use Rattle.std.specs.Prelude.{ℕ, zero, suc, ◌+◌, Bool, true, false, cond, List, [], ◌∷◌, ◌++◌, Some, None, Option, ◌==◌, map, find}
 use Rattle.model.specs.Bodies.{Roots}
 use Rattle.model.specs.Trains.{Obj, Car, Train, Trains, words_of, numbers, lowest_free, place_at, arrival, among}
 use Rattle.model.specs.Claims.{Wish, ref_wishes, train_wishes, trains_wishes, Claim}
@@ -11,8 +11,7 @@ pub record Mark : Type 0 where
 
 -- the first of the references that hold one of the objects
 abbrev pub first_to : List Obj → List Wish → Option Wish
-first_to os [] = None
-first_to os (w ∷ ws) = elim (among w.who os) [ true ↦ Some w | false ↦ first_to os ws ]
+first_to os ws = find (λ w. among w.who os) ws
 
 -- the references from outside the first train: the roots, which send to the arrival rank, then the slots of other trains
 abbrev pub outside : Roots → Trains → Trains → List Wish
@@ -50,8 +49,7 @@ back_of [] = 0
 back_of (c ∷ row) = cond (is_zero c.rank) 1 0 + back_of row
 
 abbrev pub claimed : List Claim → List Obj
-claimed [] = []
-claimed (c ∷ row) = c.object ∷ claimed row
+claimed row = map (λ c. c.object) row
 
 abbrev pub copied_of : List Claim → ℕ
 copied_of row = words_of (claimed row)

@@ -1,5 +1,6 @@
 -- Objects in cars, cars in trains, trains in a row.
-use Rattle.std.specs.Prelude.{◌≡◌, ℕ, zero, suc, pred, ◌+◌, Bool, true, false, cond, ◌&&◌, ◌||◌, List, [], ◌∷◌, ◌++◌, length, Some, None, Option, ◌==◌, nat_le, nat_lt}
+use Rattle.std.specs.Prelude.{◌≡◌, ℕ, zero, suc, pred, ◌+◌, Bool, true, false, cond, ◌&&◌, List, [], ◌∷◌, ◌++◌, length, Option, ◌==◌, nat_le, nat_lt, flat_map, map, find, option_map}
+use Rattle.std.specs.List.{list_any}
 use Rattle.model.specs.Bodies.{Body, size}
 
 pub record Obj : Type 0 where
@@ -31,12 +32,10 @@ abbrev pub capacity : ℕ
 capacity = 3072
 
 abbrev pub train_objects : Train → List Obj
-train_objects [] = []
-train_objects (c ∷ cs) = c.objects ++ train_objects cs
+train_objects t = flat_map (λ c. c.objects) t
 
 abbrev pub objects : Trains → List Obj
-objects [] = []
-objects (t ∷ ts) = train_objects t ++ objects ts
+objects ts = flat_map train_objects ts
 
 -- a number of each object, added up
 abbrev pub total : (Obj → ℕ) → List Obj → ℕ
@@ -57,16 +56,13 @@ cars_in_use [] = 0
 cars_in_use (t ∷ ts) = length t + cars_in_use ts
 
 abbrev pub car_numbers : Train → List ℕ
-car_numbers [] = []
-car_numbers (c ∷ cs) = c.number ∷ car_numbers cs
+car_numbers t = map (λ c. c.number) t
 
 abbrev pub numbers : Trains → List ℕ
-numbers [] = []
-numbers (t ∷ ts) = car_numbers t ++ numbers ts
+numbers ts = flat_map car_numbers ts
 
 abbrev pub one_of : ℕ → List ℕ → Bool
-one_of n [] = false
-one_of n (m ∷ ms) = n == m || one_of n ms
+one_of n ns = list_any (λ m. n == m) ns
 
 -- no number stands twice
 abbrev pub Distinct : List ℕ → Type 0
@@ -134,20 +130,13 @@ among x os = nat_lt 0 (times x os)
 
 -- what the object of identity x has inside, if it is among these
 abbrev pub inside : List Obj → ℕ → Option Body
-inside [] x = None
-inside (o ∷ os) x = elim (x == o.id) [ true ↦ Some o.body | false ↦ inside os x ]
+inside os x = option_map (λ o. o.body) (find (λ o. x == o.id) os)
 
 abbrev pub alter_object : ℕ → (Body → Body) → Obj → Obj
 alter_object x f o = record { id = o.id; body = cond (x == o.id) (f o.body) o.body }
 
-abbrev pub alter_objects : ℕ → (Body → Body) → List Obj → List Obj
-alter_objects x f [] = []
-alter_objects x f (o ∷ os) = alter_object x f o ∷ alter_objects x f os
-
 abbrev pub alter_train : ℕ → (Body → Body) → Train → Train
-alter_train x f [] = []
-alter_train x f (c ∷ cs) = record { number = c.number; objects = alter_objects x f c.objects } ∷ alter_train x f cs
+alter_train x f t = map (λ c. record { number = c.number; objects = map (alter_object x f) c.objects }) t
 
 abbrev pub alter : ℕ → (Body → Body) → Trains → Trains
-alter x f [] = []
-alter x f (t ∷ ts) = alter_train x f t ∷ alter x f ts
+alter x f ts = map (alter_train x f) ts
