@@ -1,8 +1,9 @@
 -- What holds of each object still does when objects are taken, claimed and placed.
-use Rattle.std.proofs.Common.{ℕ, zero, suc, Bool, true, false, eqb, List, [], ◌∷◌, ◌++◌, length, take, Some, None, Option}
+use Rattle.std.proofs.Common.{ℕ, zero, suc, Bool, true, false, eqb, List, [], ◌∷◌, ◌++◌, length, take, Some, None, Option, cond, not, filter}
 use Rattle.std.specs.List.{AllByRecursion}
+use Rattle.std.proofs.lemmas.Bool.{cond_both}
 use Rattle.model.specs.Trains.{Obj, Train, Trains, train_objects, objects, place, place_at, fits, with_object, opened, numbers, lowest_free}
-use Rattle.model.specs.Claims.{Taken, sort_out, take_out, then, visit, close, claim, Wish, Claim, all_to, claims}
+use Rattle.model.specs.Claims.{Taken, take_out, in_front, visit, close, claim, Wish, Claim, all_to, claims}
 use Rattle.model.specs.Step.{claimed, place_all}
 
 -- what holds of each element of lists joined, cut or mapped
@@ -24,6 +25,12 @@ module _ {X : Type 0} (P : X → Type 0) where
   all_take (suc n) [] p = tt
   all_take (suc n) (x ∷ xs) p = (p.0, all_take n xs p.1)
 
+  pub all_filter : (test : X → Bool) (xs : List X) → AllByRecursion P xs → AllByRecursion P (filter test xs)
+  all_filter test [] p = tt
+  all_filter test (x ∷ xs) p =
+      let rest = all_filter test xs p.1 in
+      cond_both (test x) (x ∷ filter test xs) (filter test xs) (AllByRecursion P) (λ e. (p.0, rest)) (λ e. rest)
+
 module _ {X : Type 0} where
   pub all_map : (P Q : X → Type 0) → ((x : X) → P x → Q x) → (xs : List X) → AllByRecursion P xs → AllByRecursion Q xs
   all_map P Q h [] p = tt
@@ -35,19 +42,14 @@ module _ {X : Type 0} where
 
 module _ (P : Obj → Type 0) where
   -- of what was taken and of what is left
-  abbrev pub Both : Taken → Type 0
-  Both t = AllByRecursion P t.objs × AllByRecursion P t.left
-
-  sort_all : (b : Bool) (o : Obj) (t : Taken) → P o → Both t → Both (sort_out b o t)
-  sort_all true o t p q = ((p, q.0), q.1)
-  sort_all false o t p q = (q.0, (p, q.1))
+  abbrev pub Both : Taken Obj → Type 0
+  Both t = AllByRecursion P t.taken × AllByRecursion P t.left
 
   pub take_out_all : (x : ℕ) (os : List Obj) → AllByRecursion P os → Both (take_out x os)
-  take_out_all x [] p = (tt, tt)
-  take_out_all x (o ∷ os) p = sort_all (eqb x o.id) o (take_out x os) p.0 (take_out_all x os p.1)
+  take_out_all x os p = (all_filter P (λ o. eqb x o.id) os p, all_filter P (λ o. not (eqb x o.id)) os p)
 
-  then_all : (os : List Obj) (t : Taken) → AllByRecursion P os → Both t → Both (then os t)
-  then_all os t p q = (all_++ P os t.objs p q.0, q.1)
+  then_all : (os : List Obj) (t : Taken Obj) → AllByRecursion P os → Both t → Both (in_front os t)
+  then_all os t p q = (all_++ P os t.taken p q.0, q.1)
 
   pub visit_all : (rs : List (Option ℕ)) (left : List Obj) → AllByRecursion P left → Both (visit rs left)
   visit_all [] left p = (tt, p)
@@ -55,7 +57,7 @@ module _ (P : Obj → Type 0) where
   visit_all (Some x ∷ rs) left p =
       let t = take_out x left in
       let q = take_out_all x left p in
-      then_all t.objs (visit rs t.left) q.0 (visit_all rs t.left q.1)
+      then_all t.taken (visit rs t.left) q.0 (visit_all rs t.left q.1)
 
   pub close_all : (n : ℕ) (q left : List Obj) → AllByRecursion P left → Both (close n q left)
   close_all zero q left p = (tt, p)
@@ -63,13 +65,13 @@ module _ (P : Obj → Type 0) where
   close_all (suc n) (o ∷ q) left p =
       let t = visit o.body.refs left in
       let b = visit_all o.body.refs left p in
-      then_all t.objs (close n (q ++ t.objs) t.left) b.0 (close_all n (q ++ t.objs) t.left b.1)
+      then_all t.taken (close n (q ++ t.taken) t.left) b.0 (close_all n (q ++ t.taken) t.left b.1)
 
   pub claim_all : (x : ℕ) (left : List Obj) → AllByRecursion P left → Both (claim x left)
   claim_all x left p =
       let t = take_out x left in
       let b = take_out_all x left p in
-      then_all t.objs (close (length left) t.objs t.left) b.0 (close_all (length left) t.objs t.left b.1)
+      then_all t.taken (close (length left) t.taken t.left) b.0 (close_all (length left) t.taken t.left b.1)
 
   pub claimed_all_++ : (xs ys : List Claim) → AllByRecursion P (claimed xs) → AllByRecursion P (claimed ys) → AllByRecursion P (claimed (xs ++ ys))
   claimed_all_++ [] ys p q = q
@@ -80,14 +82,14 @@ module _ (P : Obj → Type 0) where
   all_to_all k (o ∷ os) p = (p.0, all_to_all k os p.1)
 
   -- the objects carried out of a car, and those lost, are of that car
-  pub claims_all : (ws : List Wish) (left : List Obj) → AllByRecursion P left → AllByRecursion P (claimed (claims ws left).row) × AllByRecursion P (claims ws left).left
+  pub claims_all : (ws : List Wish) (left : List Obj) → AllByRecursion P left → AllByRecursion P (claimed (claims ws left).taken) × AllByRecursion P (claims ws left).left
   claims_all [] left p = (tt, p)
   claims_all (w ∷ ws) left p =
       let t = claim w.who left in
       let c = claims ws t.left in
       let q = claim_all w.who left p in
       let r = claims_all ws t.left q.1 in
-      (claimed_all_++ (all_to w.rank t.objs) c.row (all_to_all w.rank t.objs q.0) r.0, r.1)
+      (claimed_all_++ (all_to w.rank t.taken) c.taken (all_to_all w.rank t.taken q.0) r.0, r.1)
 
   pub claimed_all_take : (n : ℕ) (row : List Claim) → AllByRecursion P (claimed row) → AllByRecursion P (claimed (take n row))
   claimed_all_take zero row p = tt
@@ -98,7 +100,7 @@ module _ (P : Obj → Type 0) where
   place_train_all n o [] p q = (q, tt)
   place_train_all n o (c ∷ []) p q = go (fits c o)
     where
-      go : (b : Bool) → AllByRecursion P (train_objects (elim b [ true ↦ with_object o c ∷ [] | false ↦ c ∷ opened n o ∷ [] ]))
+      go : (b : Bool) → AllByRecursion P (train_objects (cond b (with_object o c ∷ []) (c ∷ opened n o ∷ [])))
       go true = all_++ P (c.objects ++ (o ∷ [])) [] (all_++ P c.objects (o ∷ []) (all_left P c.objects [] p) (q, tt)) tt
       go false = all_++ P c.objects (o ∷ []) (all_left P c.objects [] p) (q, tt)
   place_train_all n o (c ∷ d ∷ cs) p q =

@@ -1,12 +1,12 @@
 -- How full cars are, how many there are, and that one is always free.
-use Rattle.std.proofs.Common.{◌≡◌, ℕ, zero, suc, ◌+◌, ◌*◌, ◌<◌, ◌≤◌, Bool, true, false, ◌&&◌, ltb, leb, List, [], ◌∷◌, ◌++◌, length, take, None, Option, refl, arith, length-append}
+use Rattle.std.proofs.Common.{◌≡◌, ℕ, zero, suc, ◌+◌, ◌*◌, ◌<◌, ◌≤◌, Bool, true, false, ◌&&◌, ltb, leb, List, [], ◌∷◌, ◌++◌, length, take, None, Option, refl, arith, length-append, cond, pred}
 use lib.ListN.{length-replicate}
 use Rattle.std.proofs.lemmas.Bool.{leb-true, leb-false, ltb-true, and_parts}
 use Rattle.std.specs.List.{AllByRecursion}
 use Rattle.layout.specs.Meaning.{Meaning, Lawful}
 use Rattle.model.specs.Bodies.{fresh, size}
-use Rattle.model.specs.Trains.{Obj, Car, Train, Trains, train_objects, objects, total, obj_size, words_of, words_in_use, cars_in_use, car_numbers, numbers, place, place_at, fits, with_object, opened, lowest_free, last_cars, arrival, arrival_by, most_trains, car_words}
-use Rattle.model.specs.Claims.{Wish, Claim, Carried, claims}
+use Rattle.model.specs.Trains.{Obj, Car, Train, Trains, train_objects, objects, total, obj_size, words_of, words_in_use, cars_in_use, car_numbers, numbers, place, place_at, fits, with_object, opened, lowest_free, last_cars, arrival, most_trains, car_words}
+use Rattle.model.specs.Claims.{Wish, Claim, claims, Taken}
 use Rattle.model.specs.Step.{claimed, copied_of, place_all, trim}
 use Rattle.model.specs.Space.{Model, carried}
 use Rattle.model.specs.Laws.{moment, FreeCar}
@@ -29,7 +29,7 @@ pub place_stands : (n : ℕ) (o : Obj) (t : Train) → 1 ≤ length (place n o t
 place_stands n o [] = omega arith
 place_stands n o (c ∷ []) = go (fits c o)
   where
-    go : (b : Bool) → 1 ≤ length {A = Car} (elim b [ true ↦ with_object o c ∷ [] | false ↦ c ∷ opened n o ∷ [] ])
+    go : (b : Bool) → 1 ≤ length {A = Car} (cond b (with_object o c ∷ []) (c ∷ opened n o ∷ []))
     go true = omega arith
     go false = omega arith
 place_stands n o (c ∷ d ∷ cs) = omega arith
@@ -38,7 +38,7 @@ pub filled_place : (n : ℕ) (o : Obj) (t : Train) → Sized o → Filled t → 
 filled_place n o [] s p = (omega arith, omega arith)
 filled_place n o (c ∷ []) s p = go (fits c o) refl
   where
-    go : (b : Bool) → fits c o ≡ b → Filled (elim b [ true ↦ with_object o c ∷ [] | false ↦ c ∷ opened n o ∷ [] ])
+    go : (b : Bool) → fits c o ≡ b → Filled (cond b (with_object o c ∷ []) (c ∷ opened n o ∷ []))
     go true e =
         let h : words_of c.objects + obj_size o ≤ car_words = leb-true (words_of c.objects + obj_size o) car_words e in
         let w = total-++ obj_size c.objects (o ∷ []) in
@@ -130,7 +130,7 @@ arrival_below (t ∷ []) l = (omega arith, omega arith, λ h. omega arith)
 arrival_below (t ∷ u ∷ ts) l = go (ltb (length (t ∷ u ∷ ts)) most_trains && leb 4 (last_cars (t ∷ u ∷ ts))) refl
   where
     go : (b : Bool) → (ltb (length (t ∷ u ∷ ts)) most_trains && leb 4 (last_cars (t ∷ u ∷ ts))) ≡ b
-        → (arrival_by b (length (t ∷ u ∷ ts)) < most_trains) × (arrival_by b (length (t ∷ u ∷ ts)) ≤ length (t ∷ u ∷ ts)) × (1 ≤ length (t ∷ u ∷ ts) → 1 ≤ arrival_by b (length (t ∷ u ∷ ts)))
+        → (cond b (length (t ∷ u ∷ ts)) (pred (length (t ∷ u ∷ ts))) < most_trains) × (cond b (length (t ∷ u ∷ ts)) (pred (length (t ∷ u ∷ ts))) ≤ length (t ∷ u ∷ ts)) × (1 ≤ length (t ∷ u ∷ ts) → 1 ≤ cond b (length (t ∷ u ∷ ts)) (pred (length (t ∷ u ∷ ts))))
     go true e =
         let p = and_parts (ltb (length (t ∷ u ∷ ts)) most_trains) (leb 4 (last_cars (t ∷ u ∷ ts))) e in
         (ltb-true (length (t ∷ u ∷ ts)) most_trains p.0, omega arith, λ h. h)
@@ -165,7 +165,7 @@ free_car ts h =
 
 -- A step copies no more than a car's words, and has a free car at each moment.
 
-pub copied_few : (f : Car) (ws : List Wish) → words_of f.objects ≤ 128 → copied_of (claims ws f.objects).row ≤ 128
+pub copied_few : (f : Car) (ws : List Wish) → words_of f.objects ≤ 128 → copied_of (claims ws f.objects).taken ≤ 128
 copied_few f ws h = omega (arith, claims-total obj_size ws f.objects)
 
 pub total-take : (g : Obj → ℕ) (n : ℕ) (row : List Claim) → total g (claimed (take n row)) ≤ total g (claimed row)
@@ -192,15 +192,15 @@ few_placed busy row f cs ts p w l s r u =
 
 pub free_at_moment : (f : Car) (cs : Train) (ts : Trains) (m : Model)
     → AllByRecursion Filled ((f ∷ cs) ∷ ts) → words_in_use ((f ∷ cs) ∷ ts) ≤ 3072 → length ((f ∷ cs) ∷ ts) ≤ 8
-    → AllByRecursion Sized f.objects → RanksBelow (carried f cs ts m).row
+    → AllByRecursion Sized f.objects → RanksBelow (carried f cs ts m).taken
     → (n : ℕ) → FreeCar (moment n m ((f ∷ cs) ∷ ts))
 free_at_moment f cs ts m p w l s r n = go (carried f cs ts m) (claims_all Sized _ f.objects s).0 r (claims-total obj_size _ f.objects)
   where
-    go : (c : Carried) → AllByRecursion Sized (claimed c.row) → RanksBelow c.row → total obj_size (claimed c.row) + total obj_size c.left ≡ total obj_size f.objects
-        → FreeCar ((f ∷ []) ∷ place_all (f.number ∷ []) (take n c.row) (cs ∷ ts))
+    go : (c : Taken Claim) → AllByRecursion Sized (claimed c.taken) → RanksBelow c.taken → total obj_size (claimed c.taken) + total obj_size c.left ≡ total obj_size f.objects
+        → FreeCar ((f ∷ []) ∷ place_all (f.number ∷ []) (take n c.taken) (cs ∷ ts))
     go c a b e =
-        let k = few_placed (f.number ∷ []) (take n c.row) f cs ts p w l (claimed_all_take Sized n c.row a) (all_take _ n c.row b) (omega (arith, total-take obj_size n c.row)) in
-        free_car ((f ∷ []) ∷ place_all (f.number ∷ []) (take n c.row) (cs ∷ ts)) (omega (arith, k))
+        let k = few_placed (f.number ∷ []) (take n c.taken) f cs ts p w l (claimed_all_take Sized n c.taken a) (all_take _ n c.taken b) (omega (arith, total-take obj_size n c.taken)) in
+        free_car ((f ∷ []) ∷ place_all (f.number ∷ []) (take n c.taken) (cs ∷ ts)) (omega (arith, k))
 
 -- A new object has from 2 to 64 words.
 

@@ -1,9 +1,9 @@
 -- Carrying is closed: what a claimed object or a wish holds is not left in the car.
-use Rattle.std.proofs.Common.{◌≡◌, ℕ, zero, suc, ◌+◌, ◌≤◌, Bool, true, false, cond, eqb, ◌⊎◌, List, [], ◌∷◌, ◌++◌, length, get_or, Some, None, Option, sym, refl, ap, ◌∙◌, subst, inl, inr, arith, length-append}
+use Rattle.std.proofs.Common.{◌≡◌, ℕ, zero, suc, ◌+◌, ◌≤◌, Bool, true, false, cond, eqb, ◌⊎◌, List, [], ◌∷◌, ◌++◌, length, get_or, Some, None, Option, sym, refl, ap, ◌∙◌, subst, inl, inr, arith, length-append, not}
 use Rattle.std.proofs.lemmas.Bool.{ne_eqb, eq-eqb}
 use Rattle.std.specs.List.{AllByRecursion}
 use Rattle.model.specs.Trains.{Obj, Train, Trains, train_objects, objects, total, times, is, one_if}
-use Rattle.model.specs.Claims.{sort_out, take_out, visit, close, claim, Wish, Claim, all_to, claims, ref_wishes, object_wishes, train_wishes, trains_wishes}
+use Rattle.model.specs.Claims.{take_out, visit, close, claim, Wish, Claim, all_to, claims, ref_wishes, object_wishes, train_wishes, trains_wishes}
 use Rattle.model.specs.Step.{claimed, out_of, is_zero}
 use Rattle.model.proofs.Totals.{take_out-total, visit-total, close-total, claim-total, claims-total}
 use Rattle.model.specs.Sound.{Points}
@@ -21,7 +21,7 @@ pub take_out_none : (x : ℕ) (os : List Obj) → times x (take_out x os).left �
 take_out_none x [] = refl
 take_out_none x (o ∷ os) = go (take_out_none x os) (eqb x o.id) refl
   where
-    go : times x (take_out x os).left ≡ 0 → (b : Bool) → eqb x o.id ≡ b → times x (sort_out b o (take_out x os)).left ≡ 0
+    go : times x (take_out x os).left ≡ 0 → (b : Bool) → eqb x o.id ≡ b → times x (cond (not b) (o ∷ (take_out x os).left) (take_out x os).left) ≡ 0
     go h true e = h
     go h false e = let z : is x o ≡ 0 = ap one_if e in omega (arith, z, h)
 
@@ -53,31 +53,31 @@ done_less left less h [] d = tt
 done_less left less h (o ∷ os) d = ((λ i y e. omega (arith, h y, d.0 i y e)), done_less left less h os d.1)
 
 pub close_done : (n : ℕ) (q left : List Obj) → length q + length left ≤ n
-    → AllByRecursion (Done (close n q left).left) q × AllByRecursion (Done (close n q left).left) (close n q left).objs
+    → AllByRecursion (Done (close n q left).left) q × AllByRecursion (Done (close n q left).left) (close n q left).taken
 close_done zero [] left h = (tt, tt)
 close_done zero (o ∷ q) left h = absurd (omega (arith, h))
 close_done (suc n) [] left h = (tt, tt)
 close_done (suc n) (o ∷ q) left h =
     let t = visit o.body.refs left in
-    let c = close n (q ++ t.objs) t.left in
-    let fewer : length (q ++ t.objs) + length t.left ≤ n =
-    simp length-append (omega (arith, h, visit-total (λ o. 1) o.body.refs left, length-total t.objs, length-total t.left, length-total left)) in
-    let rest = close_done n (q ++ t.objs) t.left fewer in
-    let here : Done c.left o = λ i y e. omega (arith, visit_none o.body.refs left i y e, close_less n (q ++ t.objs) t.left y) in
-    ((here, all_left _ q t.objs rest.0), all_++ _ t.objs c.objs (all_right _ q t.objs rest.0) rest.1)
+    let c = close n (q ++ t.taken) t.left in
+    let fewer : length (q ++ t.taken) + length t.left ≤ n =
+    simp length-append (omega (arith, h, visit-total (λ o. 1) o.body.refs left, length-total t.taken, length-total t.left, length-total left)) in
+    let rest = close_done n (q ++ t.taken) t.left fewer in
+    let here : Done c.left o = λ i y e. omega (arith, visit_none o.body.refs left i y e, close_less n (q ++ t.taken) t.left y) in
+    ((here, all_left _ q t.taken rest.0), all_++ _ t.taken c.taken (all_right _ q t.taken rest.0) rest.1)
 
 pub claim_none : (x : ℕ) (left : List Obj) → times x (claim x left).left ≡ 0
 claim_none x left =
     let t = take_out x left in
-    omega (arith, take_out_none x left, close_less (length left) t.objs t.left x)
+    omega (arith, take_out_none x left, close_less (length left) t.taken t.left x)
 
-pub claim_done : (x : ℕ) (left : List Obj) → AllByRecursion (Done (claim x left).left) (claim x left).objs
+pub claim_done : (x : ℕ) (left : List Obj) → AllByRecursion (Done (claim x left).left) (claim x left).taken
 claim_done x left =
     let t = take_out x left in
-    let h : length t.objs + length t.left ≤ length left =
-    omega (arith, take_out-total (λ o. 1) x left, length-total t.objs, length-total t.left, length-total left) in
-    let d = close_done (length left) t.objs t.left h in
-    all_++ _ t.objs (close (length left) t.objs t.left).objs d.0 d.1
+    let h : length t.taken + length t.left ≤ length left =
+    omega (arith, take_out-total (λ o. 1) x left, length-total t.taken, length-total t.left, length-total left) in
+    let d = close_done (length left) t.taken t.left h in
+    all_++ _ t.taken (close (length left) t.taken t.left).taken d.0 d.1
 
 pub claimed_of_++ : (xs ys : List Claim) → claimed (xs ++ ys) ≡ claimed xs ++ claimed ys
 claimed_of_++ [] ys = refl
@@ -91,13 +91,13 @@ claimed-all_to k (o ∷ os) = ap (λ ps. o ∷ ps) (claimed-all_to k os)
 pub claimed_row : (k : ℕ) (os : List Obj) (row : List Claim) → claimed (all_to k os ++ row) ≡ os ++ claimed row
 claimed_row k os row = claimed_of_++ (all_to k os) row ∙ ap (λ ps. ps ++ claimed row) (claimed-all_to k os)
 
-pub claims_done : (ws : List Wish) (left : List Obj) → AllByRecursion (Done (claims ws left).left) (claimed (claims ws left).row)
+pub claims_done : (ws : List Wish) (left : List Obj) → AllByRecursion (Done (claims ws left).left) (claimed (claims ws left).taken)
 claims_done [] left = tt
 claims_done (w ∷ ws) left =
     let t = claim w.who left in
     let c = claims ws t.left in
-    subst (AllByRecursion (Done c.left)) (sym (claimed_row w.rank t.objs c.row))
-    (all_++ _ t.objs (claimed c.row) (done_less t.left c.left (claims_less ws t.left) t.objs (claim_done w.who left)) (claims_done ws t.left))
+    subst (AllByRecursion (Done c.left)) (sym (claimed_row w.rank t.taken c.taken))
+    (all_++ _ t.taken (claimed c.taken) (done_less t.left c.left (claims_less ws t.left) t.taken (claim_done w.who left)) (claims_done ws t.left))
 
 -- no object that was wished is left
 pub claims_none : (ws : List Wish) (left : List Obj) → AllByRecursion (λ w. times w.who (claims ws left).left ≡ 0) ws
@@ -152,18 +152,18 @@ pub above_counts : (k : ℕ) → 1 ≤ k → ◌≡◌ {A = ℕ} (cond (is_zero 
 above_counts k h = ap (λ b. cond b 0 1) (ne_eqb k 0 (λ e. omega arith))
 
 -- a wish of a rank above 0 for an object of the car has something leave the first train
-pub out_some : (vs ws : List Wish) (left : List Obj) (x : ℕ) → AllByRecursion (λ w. 1 ≤ w.rank) vs → Wished x vs → 1 ≤ times x left → 1 ≤ out_of (claims (vs ++ ws) left).row
+pub out_some : (vs ws : List Wish) (left : List Obj) (x : ℕ) → AllByRecursion (λ w. 1 ≤ w.rank) vs → Wished x vs → 1 ≤ times x left → 1 ≤ out_of (claims (vs ++ ws) left).taken
 out_some [] ws left x a h l = absurd h
-out_some (v ∷ vs) ws left x a h l = go (out_some vs ws (claim v.who left).left x a.1) (claim v.who left).objs refl
+out_some (v ∷ vs) ws left x a h l = go (out_some vs ws (claim v.who left).left x a.1) (claim v.who left).taken refl
   where
-    go : (Wished x vs → 1 ≤ times x (claim v.who left).left → 1 ≤ out_of (claims (vs ++ ws) (claim v.who left).left).row) → (os : List Obj) → (claim v.who left).objs ≡ os → 1 ≤ out_of (all_to v.rank (claim v.who left).objs ++ (claims (vs ++ ws) (claim v.who left).left).row)
+    go : (Wished x vs → 1 ≤ times x (claim v.who left).left → 1 ≤ out_of (claims (vs ++ ws) (claim v.who left).left).taken) → (os : List Obj) → (claim v.who left).taken ≡ os → 1 ≤ out_of (all_to v.rank (claim v.who left).taken ++ (claims (vs ++ ws) (claim v.who left).left).taken)
     go more (o ∷ os) e =
-        let r = (claims (vs ++ ws) (claim v.who left).left).row in
+        let r = (claims (vs ++ ws) (claim v.who left).left).taken in
         subst (λ (ps : List Obj). 1 ≤ out_of (all_to v.rank ps ++ r)) (sym e)
         (omega (arith, above_counts v.rank a.0))
     go more [] e =
-        let r = (claims (vs ++ ws) (claim v.who left).left).row in
-        let none : total (is x) (claim v.who left).objs ≡ 0 = ap (total (is x)) e in
+        let r = (claims (vs ++ ws) (claim v.who left).left).taken in
+        let none : total (is x) (claim v.who left).taken ≡ 0 = ap (total (is x)) e in
         let same : 1 ≤ times x (claim v.who left).left = omega (arith, l, none, claim-total (is x) v.who left) in
         let later : Wished x vs = elim h [
           | inl q ↦ absurd (let z : times x (claim v.who left).left ≡ 0 = subst (λ y. times y (claim v.who left).left ≡ 0) q (claim_none v.who left) in omega arith)

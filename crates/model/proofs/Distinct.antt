@@ -1,8 +1,10 @@
 -- Lists of numbers, each there once, and the lowest number that is not in a list.
-use Rattle.std.proofs.Common.{◌≡◌, ℕ, zero, suc, ◌+◌, ◌<◌, ◌≤◌, Bool, true, false, ◌||◌, eqb, ◌⊎◌, List, [], ◌∷◌, ◌++◌, length, sym, refl, ap, ◌∙◌, subst, inl, inr, arith}
-use Rattle.std.proofs.lemmas.Bool.{both_ways, eqb-true, eqb-false, eq-eqb, ne_eqb, or_cases, or_from, or_left, or_right}
-use Rattle.std.specs.List.{range_with_len}
-use Rattle.model.specs.Trains.{one_of, Distinct, lowest_from, lowest_free}
+use Rattle.std.proofs.Common.{◌≡◌, ℕ, zero, suc, ◌+◌, ◌<◌, ◌≤◌, Bool, true, false, ◌||◌, eqb, ◌⊎◌, List, [], ◌∷◌, ◌++◌, length, sym, refl, ap, ◌∙◌, subst, inl, inr, arith, cond, get_or}
+use Rattle.std.proofs.lemmas.Bool.{both_ways, eqb-true, eqb-false, eq-eqb, ne_eqb, or_cases, or_from, or_left, or_right, cases_lt}
+use Rattle.std.specs.List.{range_with_len, prefix_len}
+use Rattle.std.proofs.lemmas.List.Sums.{prefix_len_stops, prefix_len_passes}
+use Rattle.std.proofs.lemmas.List.FromFn.{length-range_with_len, get_or-range_with_len}
+use Rattle.model.specs.Trains.{one_of, Distinct, lowest_free}
 
 abbrev pub sum_by : (ℕ → ℕ) → List ℕ → ℕ
 sum_by f [] = 0
@@ -44,14 +46,14 @@ one_of_either x (y ∷ xs) ys e =
 -- the list without the first x
 abbrev pub without : ℕ → List ℕ → List ℕ
 without x [] = []
-without x (y ∷ ys) = elim (eqb x y) [ true ↦ ys | false ↦ y ∷ without x ys ]
+without x (y ∷ ys) = cond (eqb x y) ys (y ∷ without x ys)
 
 sum_without : (f : ℕ → ℕ) (x : ℕ) (ys : List ℕ) → one_of x ys ≡ true → sum_by f ys ≡ f x + sum_by f (without x ys)
 sum_without f x [] e = absurd (both_ways false refl e)
 sum_without f x (y ∷ ys) e = go (eqb x y) refl e (sum_without f x ys)
   where
     go : (b : Bool) → eqb x y ≡ b → (b || one_of x ys) ≡ true → (one_of x ys ≡ true → sum_by f ys ≡ f x + sum_by f (without x ys))
-        → f y + sum_by f ys ≡ f x + sum_by f (elim b [ true ↦ ys | false ↦ y ∷ without x ys ])
+        → f y + sum_by f ys ≡ f x + sum_by f (cond b ys (y ∷ without x ys))
     go true p q more = ap (λ (z : ℕ). f z + sum_by f ys) (sym (eqb-true x y p))
     go false p q more = omega (arith, more q)
 
@@ -59,7 +61,7 @@ one_of-without : (z x : ℕ) (ys : List ℕ) → eqb z x ≡ false → one_of z 
 one_of-without z x [] n e = e
 one_of-without z x (y ∷ ys) n e = go (eqb x y) refl (one_of-without z x ys n)
   where
-    go : (b : Bool) → eqb x y ≡ b → (one_of z ys ≡ true → one_of z (without x ys) ≡ true) → one_of z (elim b [ true ↦ ys | false ↦ y ∷ without x ys ]) ≡ true
+    go : (b : Bool) → eqb x y ≡ b → (one_of z ys ≡ true → one_of z (without x ys) ≡ true) → one_of z (cond b ys (y ∷ without x ys)) ≡ true
     go true p more =
         elim (or_cases (eqb z y) (one_of z ys) e) [
           | inl q ↦ absurd (eqb-false z x n (eqb-true z y q ∙ sym (eqb-true x y p)))
@@ -97,10 +99,6 @@ pub distinct_numbered : (a n : ℕ) → Distinct (range_with_len a n)
 distinct_numbered a zero = tt
 distinct_numbered a (suc n) = (below_numbered a (a + 1) n (omega arith), distinct_numbered (a + 1) n)
 
-pub length-numbered : (a n : ℕ) → length (range_with_len a n) ≡ n
-length-numbered a zero = refl
-length-numbered a (suc n) = omega (arith, length-numbered (a + 1) n)
-
 pub in_numbered : (x a n : ℕ) → a ≤ x → x < a + n → one_of x (range_with_len a n) ≡ true
 in_numbered x a zero p q = absurd (omega arith)
 in_numbered x a (suc n) p q = go (eqb x a) refl (λ h. in_numbered x (a + 1) n h (omega arith))
@@ -117,32 +115,26 @@ numbered_bounds x a (suc n) e =
       | inr p ↦ (omega (arith, (numbered_bounds x (a + 1) n p).0), omega (arith, (numbered_bounds x (a + 1) n p).1))
     ]
 
--- the tries end at a number that is not used, or all of them were used
-abbrev Ends : (tries n r : ℕ) → List ℕ → Type 0
-Ends k n r used =
-    ((r < n + k) × (one_of r used ≡ false)) ⊎ ((z : ℕ) → one_of z (range_with_len n k) ≡ true → one_of z used ≡ true)
+at_range : (k i : ℕ) → i < k → get_or (range_with_len 0 k) i 0 ≡ i
+at_range k i l = omega (arith, get_or-range_with_len 0 k i 0 l)
 
-ends : (k n : ℕ) (used : List ℕ) → Ends k n (lowest_from k n used) used
-ends zero n used = inr (λ z e. absurd (both_ways false refl e))
-ends (suc k) n used = go (one_of n used) refl (ends k (n + 1) used)
-  where
-    more : one_of n used ≡ true → (r : ℕ) → Ends k (n + 1) r used → Ends (suc k) n r used
-    more e r (inl p) = inl (omega (arith, p.0), p.1)
-    more e r (inr h) = inr (λ z q. elim (one_of_head z n (range_with_len (n + 1) k) q) [
-      | inl s ↦ subst (λ (y : ℕ). one_of y used ≡ true) (sym s) e
-      | inr s ↦ h z s
-    ])
-
-    go : (b : Bool) → one_of n used ≡ b → Ends k (n + 1) (lowest_from k (n + 1) used) used → Ends (suc k) n (elim b [ true ↦ lowest_from k (n + 1) used | false ↦ n ]) used
-    go true e rest = more e (lowest_from k (n + 1) used) rest
-    go false e rest = inl (omega arith, e)
-
-pub lowest_within : (k n : ℕ) (used : List ℕ) → length used < k → (lowest_from k n used < n + k) × (one_of (lowest_from k n used) used ≡ false)
-lowest_within k n used h = go (lowest_from k n used) (ends k n used)
-  where
-    go : (r : ℕ) → Ends k n r used → (r < n + k) × (one_of r used ≡ false)
-    go r (inl p) = p
-    go r (inr all) = absurd (omega (arith, length-within (range_with_len n k) used (distinct_numbered n k) all, length-numbered n k))
+-- a row of fewer numbers than k leaves one below k out
+pub lowest_within : (k : ℕ) (used : List ℕ) → length used < k
+    → (prefix_len (λ n. one_of n used) (range_with_len 0 k) < k) × (one_of (prefix_len (λ n. one_of n used) (range_with_len 0 k)) used ≡ false)
+lowest_within k used h =
+    let p = λ (n : ℕ). one_of n used in
+    let ns = range_with_len 0 k in
+    let n = prefix_len p ns in
+    let l : length ns ≡ k = length-range_with_len 0 k in
+    elim (cases_lt n k) [
+      | inl below ↦ (below, subst (λ (z : ℕ). one_of z used ≡ false) (at_range k n below) (prefix_len_stops p ns 0 (omega (arith, l, below))))
+      | inr all ↦ absurd (
+          let within = length-within ns used (distinct_numbered 0 k) (λ z e.
+          let b : z < k = omega (arith, (numbered_bounds z 0 k e).1) in
+          subst (λ (y : ℕ). one_of y used ≡ true) (at_range k z b) (prefix_len_passes p ns z 0 (omega (arith, all, b)))) in
+          omega (arith, within, l, h)
+          )
+    ]
 
 pub lowest_unused : (used : List ℕ) → length used < 64 → (lowest_free used < 64) × (one_of (lowest_free used) used ≡ false)
-lowest_unused used h = lowest_within 64 0 used h
+lowest_unused used h = lowest_within 64 used h

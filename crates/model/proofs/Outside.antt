@@ -5,7 +5,7 @@ use Rattle.std.specs.List.{AllByRecursion}
 use Rattle.model.specs.Bodies.{Roots}
 use Rattle.model.specs.Trains.{Obj, Car, Train, Trains, times, among, arrival, most_trains}
 use Rattle.model.specs.Claims.{Wish, Claim, ref_wishes, object_wishes, train_wishes, trains_wishes, claim, all_to, claims}
-use Rattle.model.specs.Step.{Mark, first_to, outside, mark_wishes, wishes}
+use Rattle.model.specs.Step.{first_to, outside, mark_wishes, wishes}
 use Rattle.model.specs.Sound.{Marked}
 use Rattle.model.proofs.Closure.{Wished, wished_right}
 use Rattle.model.proofs.Cars.{RanksBelow, arrival_below}
@@ -68,15 +68,15 @@ outside_ranks rs t ts h =
     (ref_ranks (Sends (t ∷ ts)) (arrival (t ∷ ts)) (a.2 (omega arith), a.1, a.0) rs)
     (trains_ranks (Sends (t ∷ ts)) 1 ts (λ j p q. (p, omega arith, omega arith)))
 
-pub mark_ranks : (ts : Trains) (mk : Option Mark) → ((w : Mark) → mk ≡ Some w → Marked w ts) → Ranks (Sends ts) (mark_wishes mk)
+pub mark_ranks : (ts : Trains) (mk : Option Wish) → ((w : Wish) → mk ≡ Some w → Marked w ts) → Ranks (Sends ts) (mark_wishes mk)
 mark_ranks ts None h = tt
 mark_ranks ts (Some m) h = let k = h m refl in ((k.above, k.within, k.below), tt)
 
 -- the wishes that send to another train come before those of the first train's own slots
-abbrev pub away : Roots → Option Mark → Car → Train → Trains → List Wish
+abbrev pub away : Roots → Option Wish → Car → Train → Trains → List Wish
 away rs mk f cs ts = ref_wishes (arrival ((f ∷ cs) ∷ ts)) rs ++ (mark_wishes mk ++ trains_wishes 1 ts)
 
-pub wishes_split : (rs : Roots) (mk : Option Mark) (f : Car) (cs : Train) (ts : Trains) → wishes rs mk f cs ts ≡ away rs mk f cs ts ++ train_wishes 0 cs
+pub wishes_split : (rs : Roots) (mk : Option Wish) (f : Car) (cs : Train) (ts : Trains) → wishes rs mk f cs ts ≡ away rs mk f cs ts ++ train_wishes 0 cs
 wishes_split rs mk f cs ts =
     let A = ref_wishes (arrival ((f ∷ cs) ∷ ts)) rs in
     let B = mark_wishes mk in
@@ -84,8 +84,8 @@ wishes_split rs mk f cs ts =
     let D = train_wishes 0 cs in
     ap (λ ws. A ++ ws) (sym (append_assoc B C D)) ∙ sym (append_assoc A (B ++ C) D)
 
-pub away_ranks : (rs : Roots) (mk : Option Mark) (f : Car) (cs : Train) (ts : Trains) → length ((f ∷ cs) ∷ ts) ≤ most_trains
-    → ((w : Mark) → mk ≡ Some w → Marked w ((f ∷ cs) ∷ ts)) → Ranks (Sends ((f ∷ cs) ∷ ts)) (away rs mk f cs ts)
+pub away_ranks : (rs : Roots) (mk : Option Wish) (f : Car) (cs : Train) (ts : Trains) → length ((f ∷ cs) ∷ ts) ≤ most_trains
+    → ((w : Wish) → mk ≡ Some w → Marked w ((f ∷ cs) ∷ ts)) → Ranks (Sends ((f ∷ cs) ∷ ts)) (away rs mk f cs ts)
 away_ranks rs mk f cs ts h mks =
     let P : Wish → Type 0 = λ w. Sends ((f ∷ cs) ∷ ts) w.rank in
     let A = ref_wishes (arrival ((f ∷ cs) ∷ ts)) rs in
@@ -97,7 +97,7 @@ pub wishes_above : (ts : Trains) (ws : List Wish) → Ranks (Sends ts) ws → Al
 wishes_above ts = all_map _ _ (λ w s. s.0)
 
 -- what is wished from outside is wished among those sent away
-pub outside-away : (rs : Roots) (mk : Option Mark) (f : Car) (cs : Train) (ts : Trains) (x : ℕ)
+pub outside-away : (rs : Roots) (mk : Option Wish) (f : Car) (cs : Train) (ts : Trains) (x : ℕ)
     → Wished x (outside rs ((f ∷ cs) ∷ ts) ts) → Wished x (away rs mk f cs ts)
 outside-away rs mk f cs ts x h = go (ref_wishes (arrival ((f ∷ cs) ∷ ts)) rs) h
   where
@@ -106,7 +106,7 @@ outside-away rs mk f cs ts x h = go (ref_wishes (arrival ((f ∷ cs) ∷ ts)) rs
     go (v ∷ A) (inl e) = inl e
     go (v ∷ A) (inr k) = inr (go A k)
 
-pub mark_away : (rs : Roots) (m : Mark) (f : Car) (cs : Train) (ts : Trains) → Wished m.who (away rs (Some m) f cs ts)
+pub mark_away : (rs : Roots) (m : Wish) (f : Car) (cs : Train) (ts : Trains) → Wished m.who (away rs (Some m) f cs ts)
 mark_away rs m f cs ts = wished_right m.who (ref_wishes (arrival ((f ∷ cs) ∷ ts)) rs) _ (inl refl)
 
 -- a claim goes where its wish sends it
@@ -114,14 +114,14 @@ all_to_below : (k : ℕ) (os : List Obj) (row : List Claim) → k < most_trains 
 all_to_below k [] row h r = r
 all_to_below k (o ∷ os) row h r = (h, all_to_below k os row h r)
 
-pub claims_below : (ws : List Wish) (left : List Obj) → Ranks (λ k. k < most_trains) ws → RanksBelow (claims ws left).row
+pub claims_below : (ws : List Wish) (left : List Obj) → Ranks (λ k. k < most_trains) ws → RanksBelow (claims ws left).taken
 claims_below [] left h = tt
 claims_below (w ∷ ws) left h =
     let t = claim w.who left in
-    all_to_below w.rank t.objs (claims ws t.left).row h.0 (claims_below ws t.left h.1)
+    all_to_below w.rank t.taken (claims ws t.left).taken h.0 (claims_below ws t.left h.1)
 
-pub wishes_below : (rs : Roots) (mk : Option Mark) (f : Car) (cs : Train) (ts : Trains) → length ((f ∷ cs) ∷ ts) ≤ most_trains
-    → ((w : Mark) → mk ≡ Some w → Marked w ((f ∷ cs) ∷ ts)) → Ranks (λ k. k < most_trains) (wishes rs mk f cs ts)
+pub wishes_below : (rs : Roots) (mk : Option Wish) (f : Car) (cs : Train) (ts : Trains) → length ((f ∷ cs) ∷ ts) ≤ most_trains
+    → ((w : Wish) → mk ≡ Some w → Marked w ((f ∷ cs) ∷ ts)) → Ranks (λ k. k < most_trains) (wishes rs mk f cs ts)
 wishes_below rs mk f cs ts h mks =
     subst (λ ws. Ranks (λ k. k < most_trains) ws) (sym (wishes_split rs mk f cs ts))
     (all_++ (λ w. w.rank < most_trains) (away rs mk f cs ts) (train_wishes 0 cs)

@@ -1,5 +1,5 @@
 -- AllByRecursion call keeps the remembered set complete, so no reference is overlooked.
-use Rattle.std.proofs.Common.{◌≡◌, ℕ, zero, suc, ◌+◌, ◌*◌, ◌<◌, ◌≤◌, Bool, true, false, cond, eqb, List, [], ◌∷◌, ◌++◌, length, get_or, replicate, Some, None, Option, sym, refl, ap, ◌∙◌, subst, arith, length-set}
+use Rattle.std.proofs.Common.{◌≡◌, ℕ, zero, suc, ◌+◌, ◌*◌, ◌<◌, ◌≤◌, Bool, true, false, cond, eqb, List, [], ◌∷◌, ◌++◌, length, get_or, replicate, Some, None, Option, sym, refl, ap, ◌∙◌, subst, arith, length-set, not}
 use lib.ListN.{length-replicate}
 use Rattle.std.proofs.lemmas.Bool.{eqb-false, ltb-false, or_parts}
 use Rattle.std.specs.List.{AllByRecursion}
@@ -13,7 +13,7 @@ use Rattle.model.specs.Trains.{Distinct, Obj, Car, Train, Trains, train_objects,
 use Rattle.model.specs.Claims.{Wish, Claim}
 use Rattle.model.specs.Step.{first_to, outside, wishes, claimed, place_all}
 use Rattle.model.specs.Notes.{Seat, seat, Slot, train_slots, slots, notes, target_among, touched, is_slot, tell}
-use Rattle.model.specs.Space.{Model, all_objects, space_make, made_by, has_room, space_with, carried, trains_after, step_by, step_on, act, space_of}
+use Rattle.model.specs.Space.{Model, all_objects, made_by, has_room, space_with, carried, trains_after, step_by, step_on, act, space_of}
 use Rattle.model.specs.Remembered.{NoReferenceIsOverlooked}
 use Rattle.model.proofs.Totals.{total-++, claims-total, place_at-total}
 use Rattle.model.specs.Sound.{Points, Sized, Filled, SoundAt, Sound}
@@ -23,7 +23,7 @@ use Rattle.model.proofs.Cars.{RanksBelow, filled_tail, filled_place_at, length-p
 use Rattle.model.proofs.Closure.{is_self}
 use Rattle.model.proofs.Alters.{ref_size, value_size, objects-alter, alter_all}
 use Rattle.model.proofs.Outside.{claims_below, wishes_below}
-use Rattle.model.proofs.Keeps.{old_none, step_all, sound_of}
+use Rattle.model.proofs.Keeps.{old_none, step_all, sound_of, make_cases}
 use Rattle.model.proofs.RememberCars.{cars_in_row, row_objects, row_numbers, row_seat, row_slots, row_alter, row_trim, place_at-placed, Numbered, placed-numbered, numbered_right, numbered_apart, alter-numbers, seat-number, seat_found}
 use Rattle.model.proofs.RememberSlots.{InRefs, InObjects, InCars, cars_from, cars_all, By, cars_slots, Noted, Always, But, noted_right, noted_with, noted_placed, store_noted, point_noted, ToldSlot, noted_slots, slots_noted}
 use Rattle.model.proofs.RememberTold.{notes_keep, Gained, notes_gain, forgets_keep}
@@ -166,12 +166,11 @@ module _ (M : Meaning) (law : Lawful M) (has : Remembers) (told-law : RemembersL
       (λ p u i y e q. omega (arith, u i y e, old_none m.made y (objects ts) (omega (arith, q)) s.old)) (objects ts) s.refs)
       rem
 
-  make_remembers : (a b c : Bool) (k x y r : ℕ) (m : Model) → M.admits k x y ≡ b → Sound m → Remembering M has m.trains m.told
-      → Remembering M has (space_make a b c (fresh M k x y) r m).state.trains (space_make a b c (fresh M k x y) r m).state.told
-  make_remembers false b c k x y r m p s rem = rem
-  make_remembers true false c k x y r m p s rem = rem
-  make_remembers true true false k x y r m p s rem = rem
-  make_remembers true true true k x y r m p s rem = made_remembers k x y r m p s rem
+  make_remembers : (r k a b : ℕ) (m : Model) → Sound m → Remembering M has m.trains m.told
+      → Remembering M has (act M has (make r k a b) m).state.trains (act M has (make r k a b) m).state.told
+  make_remembers r k a b m s rem =
+      make_cases (λ o. Remembering M has o.state.trains o.state.told) (is_root r) (M.admits k a b) (not (has_room (fresh M k a b) m)) m
+      (made_by (fresh M k a b) r m) (λ n. rem) (λ ok room. made_remembers k a b r m ok s rem)
 
 -- A call on what the roots hold.
 
@@ -270,7 +269,7 @@ module _ (M : Meaning) (law : Lawful M) (has : Remembers) (told-law : RemembersL
     after_numbered : Numbered (cars_in_row (trains_after f cs ts m))
     after_numbered =
         let W = wishes m.roots m.mark f cs ts in
-        let row = (carried f cs ts m).row in
+        let row = (carried f cs ts m).taken in
         let R = place_all (f.number ∷ []) row (cs ∷ ts) in
         let sizes = (claims_all Sized W f.objects (all_left Sized f.objects (train_objects cs) (all_left Sized (f.objects ++ train_objects cs) (objects ts) s.sized))).0 in
         let below = claims_below W f.objects (wishes_below m.roots m.mark f cs ts s.few s.mark) in
@@ -286,9 +285,9 @@ module _ (M : Meaning) (law : Lawful M) (has : Remembers) (told-law : RemembersL
         ))
         s.few sizes below (numbered_right (f ∷ []) (cars_in_row (cs ∷ ts)) rem.numbered))
 
-    after_noted : Noted M has (forget f.number ∷ m.told) (Uncarried (claimed (carried f cs ts m).row)) (cars_in_row (trains_after f cs ts m))
+    after_noted : Noted M has (forget f.number ∷ m.told) (Uncarried (claimed (carried f cs ts m).taken)) (cars_in_row (trains_after f cs ts m))
     after_noted =
-        let row = (carried f cs ts m).row in
+        let row = (carried f cs ts m).taken in
         let os = claimed row in
         let q = forget f.number ∷ m.told in
         let R = place_all (f.number ∷ []) row (cs ∷ ts) in
@@ -300,10 +299,10 @@ module _ (M : Meaning) (law : Lawful M) (has : Remembers) (told-law : RemembersL
 
     car_remembers : ((y : ℕ) → times y (objects (trains_after f cs ts m)) ≤ 1) → AllByRecursion Filled (trains_after f cs ts m)
         → Remembering M has (trains_after f cs ts m)
-        (tell (notes (trains_after f cs ts m) (touched (claimed (carried f cs ts m).row)) (slots M 0 (trains_after f cs ts m))) (forget f.number ∷ m.told))
+        (tell (notes (trains_after f cs ts m) (touched (claimed (carried f cs ts m).taken)) (slots M 0 (trains_after f cs ts m))) (forget f.number ∷ m.told))
     car_remembers once fill =
         let after = trains_after f cs ts m in
-        let os = claimed (carried f cs ts m).row in
+        let os = claimed (carried f cs ts m).taken in
         let shp = step_all (λ o. Shaped M o.body) f cs ts m rem.shaped in
         record {
           numbered = after_numbered;
@@ -323,7 +322,7 @@ module _ (M : Meaning) (law : Lawful M) (has : Remembers) (told-law : RemembersL
 
   act_remembers : (c : Call) (m : Model) → Sound m → Sound (act M has c m).state → Remembering M has m.trains m.told
       → Remembering M has (act M has c m).state.trains (act M has c m).state.told
-  act_remembers (make r k a b) m s z rem = make_remembers M law has told-law (is_root r) (M.admits k a b) (has_room (fresh M k a b) m) k a b r m refl s rem
+  act_remembers (make r k a b) m s z rem = make_remembers M law has told-law r k a b m s rem
   act_remembers (access c) m s z rem = effect_remembers M law has told-law (reply_of (inside (all_objects m)) m.roots c).effect m z rem
   act_remembers step m s z rem = step_remembers m.trains m refl s z rem
   act_remembers tally m s z rem = rem

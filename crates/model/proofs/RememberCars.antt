@@ -1,5 +1,5 @@
 -- AllByRecursion cars in one row: seats, slots and numbers go by it, and placing an object changes it at one place.
-use Rattle.std.proofs.Common.{◌≡◌, ℕ, zero, suc, ◌+◌, ◌*◌, ◌<◌, ◌≤◌, Bool, true, false, eqb, ◌⊎◌, List, [], ◌∷◌, ◌++◌, length, Some, None, Option, sym, refl, ap, ◌∙◌, subst, inl, inr, append_assoc, arith}
+use Rattle.std.proofs.Common.{◌≡◌, ℕ, zero, suc, ◌+◌, ◌*◌, ◌<◌, ◌≤◌, Bool, true, false, eqb, ◌⊎◌, List, [], ◌∷◌, ◌++◌, length, Some, None, Option, sym, refl, ap, ◌∙◌, subst, inl, inr, append_assoc, arith, cond}
 use Rattle.std.proofs.lemmas.Bool.{both_ways, cases_Bool, eqb-false, ltb-true, ltb-false, or_parts, or_from}
 use Rattle.std.specs.Prelude.{map}
 use Rattle.layout.specs.Meaning.{Meaning}
@@ -36,8 +36,8 @@ train_seat-++ n x [] u rest = let e : n ≡ n + 0 = omega arith in ap (λ k. tra
 train_seat-++ n x (c ∷ t) u rest = go (among x c.objects) (train_seat-++ (n + 1) x t u rest)
   where
     go : (b : Bool) → train_seat (n + 1) x (t ++ u) rest ≡ train_seat (n + 1) x t (train_seat (n + 1 + length t) x u rest)
-        → ◌≡◌ {A = Option Seat} (elim b [ true ↦ Some (record { order = n; number = c.number }) | false ↦ train_seat (n + 1) x (t ++ u) rest ])
-        (elim b [ true ↦ Some (record { order = n; number = c.number }) | false ↦ train_seat (n + 1) x t (train_seat (n + length (c ∷ t)) x u rest) ])
+        → ◌≡◌ {A = Option Seat} (cond b (Some (record { order = n; number = c.number })) (train_seat (n + 1) x (t ++ u) rest))
+        (cond b (Some (record { order = n; number = c.number })) (train_seat (n + 1) x t (train_seat (n + length (c ∷ t)) x u rest)))
     go true e = refl
     go false e =
         let k : n + 1 + length t ≡ n + length (c ∷ t) = omega arith in
@@ -84,7 +84,7 @@ place-placed : (n : ℕ) (o : Obj) (t rest : Train) → Placed n o (t ++ rest) (
 place-placed n o [] rest = opens rest
 place-placed n o (c ∷ []) rest = go (fits c o)
   where
-    go : (b : Bool) → Placed n o (c ∷ rest) (◌++◌ {A = Car} (elim b [ true ↦ with_object o c ∷ [] | false ↦ c ∷ opened n o ∷ [] ]) rest)
+    go : (b : Bool) → Placed n o (c ∷ rest) (◌++◌ {A = Car} (cond b (with_object o c ∷ []) (c ∷ opened n o ∷ [])) rest)
     go true = joins c rest
     go false = later c rest (opened n o ∷ rest) (opens rest)
 place-placed n o (c ∷ d ∷ cs) rest = later c ((d ∷ cs) ++ rest) (place n o (d ∷ cs) ++ rest) (place-placed n o (d ∷ cs) rest)
@@ -156,7 +156,7 @@ module _ (y : ℕ) (d : Seat) where
   seat_order n (c ∷ t) e = go (seat_order (n + 1) t) (among y c.objects) e
     where
       go : (train_seat (n + 1) y t None ≡ Some d → n + 1 ≤ d.order) → (b : Bool)
-          → ◌≡◌ {A = Option Seat} (elim b [ true ↦ Some (record { order = n; number = c.number }) | false ↦ train_seat (n + 1) y t None ]) (Some d) → n ≤ d.order
+          → ◌≡◌ {A = Option Seat} (cond b (Some (record { order = n; number = c.number })) (train_seat (n + 1) y t None)) (Some d) → n ≤ d.order
       go more true q = let same : record { order = n; number = c.number } ≡ d = cc in subst (λ (v : Seat). n ≤ v.order) same (omega arith)
       go more false q = omega (arith, more q)
 
@@ -165,7 +165,7 @@ module _ (y : ℕ) (d : Seat) where
   seat-number n (c ∷ t) e = go (seat-number (n + 1) t) (among y c.objects) e
     where
       go : (train_seat (n + 1) y t None ≡ Some d → one_of d.number (car_numbers t) ≡ true) → (b : Bool)
-          → ◌≡◌ {A = Option Seat} (elim b [ true ↦ Some (record { order = n; number = c.number }) | false ↦ train_seat (n + 1) y t None ]) (Some d) → one_of d.number (c.number ∷ car_numbers t) ≡ true
+          → ◌≡◌ {A = Option Seat} (cond b (Some (record { order = n; number = c.number })) (train_seat (n + 1) y t None)) (Some d) → one_of d.number (c.number ∷ car_numbers t) ≡ true
       go more true q =
           let same : record { order = n; number = c.number } ≡ d = cc in
           subst (λ (v : Seat). one_of v.number (c.number ∷ car_numbers t) ≡ true) same (one_of_here c.number (car_numbers t))
@@ -176,7 +176,7 @@ module _ (y : ℕ) (d : Seat) where
   seat_lies n (c ∷ t) e = go (seat_lies (n + 1) t) (among y c.objects) refl e
     where
       go : (train_seat (n + 1) y t None ≡ Some d → 1 ≤ times y (train_objects t)) → (b : Bool) → among y c.objects ≡ b
-          → ◌≡◌ {A = Option Seat} (elim b [ true ↦ Some (record { order = n; number = c.number }) | false ↦ train_seat (n + 1) y t None ]) (Some d) → 1 ≤ times y (train_objects (c ∷ t))
+          → ◌≡◌ {A = Option Seat} (cond b (Some (record { order = n; number = c.number })) (train_seat (n + 1) y t None)) (Some d) → 1 ≤ times y (train_objects (c ∷ t))
       go more true a q = omega (arith, ltb-true 0 (times y c.objects) a, total-++ (is y) c.objects (train_objects t))
       go more false a q = omega (arith, more q, total-++ (is y) c.objects (train_objects t))
 
@@ -185,6 +185,6 @@ seat_found n y [] h = absurd (omega arith)
 seat_found n y (c ∷ t) h = go (seat_found (n + 1) y t) (among y c.objects) refl
   where
     go : (1 ≤ times y (train_objects t) → (d : Seat) × (train_seat (n + 1) y t None ≡ Some d)) → (b : Bool) → among y c.objects ≡ b
-        → (d : Seat) × (◌≡◌ {A = Option Seat} (elim b [ true ↦ Some (record { order = n; number = c.number }) | false ↦ train_seat (n + 1) y t None ]) (Some d))
+        → (d : Seat) × (◌≡◌ {A = Option Seat} (cond b (Some (record { order = n; number = c.number })) (train_seat (n + 1) y t None)) (Some d))
     go more true a = (record { order = n; number = c.number }, refl)
     go more false a = more (omega (arith, ltb-false 0 (times y c.objects) a, total-++ (is y) c.objects (train_objects t)))

@@ -280,7 +280,7 @@ module _ (M : Meaning) (has : Remembers) (r : Row) (E : ℕ → ℕ → ℕ → 
       join s u v y d q w l k = go (among y c.objects) refl w
         where
           go : (b : Bool) → among y c.objects ≡ b
-              → ◌≡◌ {A = Option Seat} (elim b [ true ↦ Some (record { order = n; number = c.number }) | false ↦ train_seat (n + 1) y cs None ]) (Some d)
+              → ◌≡◌ {A = Option Seat} (cond b (Some (record { order = n; number = c.number })) (train_seat (n + 1) y cs None)) (Some d)
               → has r d.number s.address ≡ true
           go true a z =
               let same : record { order = n; number = c.number } ≡ d = cc in
@@ -299,10 +299,10 @@ module _ (M : Meaning) (has : Remembers) (r : Row) (E : ℕ → ℕ → ℕ → 
       )
     where
       seat_here : (y : ℕ) → among y c.objects ≡ true → train_seat n y (c ∷ cs) None ≡ Some (record { order = n; number = c.number })
-      seat_here y e = ap (λ (b : Bool). elim b [ true ↦ Some (record { order = n; number = c.number }) | false ↦ train_seat (n + 1) y cs None ]) e
+      seat_here y e = ap (λ (b : Bool). cond b (Some (record { order = n; number = c.number })) (train_seat (n + 1) y cs None)) e
 
       seat_there : (y : ℕ) → among y c.objects ≡ false → train_seat n y (c ∷ cs) None ≡ train_seat (n + 1) y cs None
-      seat_there y e = ap (λ (b : Bool). elim b [ true ↦ Some (record { order = n; number = c.number }) | false ↦ train_seat (n + 1) y cs None ]) e
+      seat_there y e = ap (λ (b : Bool). cond b (Some (record { order = n; number = c.number })) (train_seat (n + 1) y cs None)) e
 
       here : (s : Slot) → ToldSlot has r E n (c ∷ cs) s → n + 1 ≤ s.order → By (ToldOf has r E c) s
       here s u h y e l k = u y (record { order = n; number = c.number }) e (seat_here y (lt-ltb 0 (times y c.objects) (omega (arith, l)))) (omega (arith, h)) k

@@ -1,23 +1,23 @@
 -- What a remembered set has after notes and forgets.
-use Rattle.std.proofs.Common.{◌≡◌, ℕ, ◌<◌, Bool, true, false, eqb, ltb, List, [], ◌∷◌, ◌++◌, Some, None, Option, sym, refl, subst, cond}
+use Rattle.std.proofs.Common.{◌∙◌, ◌≡◌, ℕ, ◌<◌, Bool, true, false, eqb, ltb, List, [], ◌∷◌, ◌++◌, Some, None, Option, sym, refl, subst, cond, reverse, append_assoc, ap}
 use Rattle.std.proofs.lemmas.Bool.{both_ways, eqb-false, or_parts, lt-ltb}
 use Rattle.std.specs.List.{AllByRecursion}
 use Rattle.std.specs.Prelude.{map, filter, flat_map}
+use Rattle.std.proofs.lemmas.List.{reverse-append}
 use Rattle.remembered.specs.Meaning.{Told, note, forget, Row}
 use Rattle.remembered.specs.Meaning.{Meaning as Remembers, Lawful as RemembersLawfully}
 use Rattle.model.specs.Trains.{Trains, one_of}
 use Rattle.model.specs.Notes.{Seat, seat, Slot, note_by, note_of, notes, tell}
 
 tell-++ : (xs ys : List Told) (r : Row) → tell (xs ++ ys) r ≡ tell ys (tell xs r)
-tell-++ [] ys r = refl
-tell-++ (x ∷ xs) ys r = tell-++ xs ys (x ∷ r)
+tell-++ xs ys r = ap (λ (ts : List Told). ts ++ r) (reverse-append xs ys) ∙ append_assoc (reverse ys) (reverse xs) r
 
 module _ (has : Remembers) (law : RemembersLawfully has) where
   note_by_keeps : (d : Option Seat) (s : Slot) (r : Row) (n a : ℕ) → has r n a ≡ true → has (tell (note_by d s) r) n a ≡ true
   note_by_keeps None s r n a p = p
   note_by_keeps (Some c) s r n a p = go (ltb c.order s.order)
     where
-      go : (b : Bool) → has (tell (elim b [ true ↦ note c.number s.address ∷ [] | false ↦ [] ]) r) n a ≡ true
+      go : (b : Bool) → has (tell (cond b (note c.number s.address ∷ []) []) r) n a ≡ true
       go true = law.keeps r c.number s.address n a p
       go false = p
 
@@ -40,7 +40,7 @@ module _ (has : Remembers) (law : RemembersLawfully has) where
   note_gains ts s r y c e q l m k =
       subst (λ (h : Option ℕ). has (tell (note_of ts s h) r) c.number s.address ≡ true) (sym e)
       (subst (λ (d : Option Seat). has (tell (note_by d s) r) c.number s.address ≡ true) (sym q)
-      (subst (λ (b : Bool). has (tell (elim b [ true ↦ note c.number s.address ∷ [] | false ↦ [] ]) r) c.number s.address ≡ true)
+      (subst (λ (b : Bool). has (tell (cond b (note c.number s.address ∷ []) []) r) c.number s.address ≡ true)
       (sym (lt-ltb c.order s.order l)) (law.gains r c.number s.address m k)))
 
 -- a slot of the test that is later is in the set
@@ -71,4 +71,5 @@ pub forgets_keep : (has : Remembers) → RemembersLawfully has → (ns : List �
 forgets_keep has law [] r n a o p = p
 forgets_keep has law (m ∷ ns) r n a o p =
     let k = or_parts (eqb n m) (one_of n ns) o in
-    forgets_keep has law ns (forget m ∷ r) n a k.1 (law.keeps_others r m n a (eqb-false n m k.0) p)
+    subst (λ (q : Row). has q n a ≡ true) (sym (tell-++ (forget m ∷ []) (map forget ns) r))
+    (forgets_keep has law ns (forget m ∷ r) n a k.1 (law.keeps_others r m n a (eqb-false n m k.0) p))

@@ -1,17 +1,17 @@
 -- The space and the plain graph go together.
-use Rattle.std.proofs.Common.{◌≡◌, ℕ, zero, suc, ◌+◌, ◌<◌, ◌≤◌, Bool, true, false, cond, eqb, List, [], ◌∷◌, ◌++◌, length, get_or, set, Some, None, Option, sym, refl, ap, ◌∙◌, subst, ap₂, arith, length-append}
+use Rattle.std.proofs.Common.{◌≡◌, ℕ, zero, suc, ◌+◌, ◌<◌, ◌≤◌, Bool, true, false, cond, eqb, List, [], ◌∷◌, ◌++◌, length, get_or, set, Some, None, Option, sym, refl, ap, ◌∙◌, subst, ap₂, arith, length-append, not}
 use Rattle.std.proofs.lemmas.Bool.{eqb-true, eqb-false, leb-false, lt-leb, both_ways}
 use Rattle.std.specs.List.{AllByRecursion}
 use Rattle.std.specs.Prelude.{slice_get, option_map, find}
 use Rattle.layout.specs.Meaning.{Meaning, Lawful}
 use Rattle.remembered.specs.Meaning.{Meaning as Remembers}
 use Rattle.model.specs.Calls.{Call, make, access, step, tally, Access, link, follow, drop, put, lift, get, words, same, full, refused, Answer, History, is_full}
-use Rattle.model.specs.Bodies.{Body, Roots, held, fresh, size, with_ref, with_value, is_root, Effect, leave, hold, point, store, Reply, object_of, with_body, reply_of}
-use Rattle.model.specs.Plain.{Graph, no_entries, alter_entry, with_effect, plain_make, plain, graph_of}
+use Rattle.model.specs.Bodies.{Body, Roots, held, fresh, size, with_ref, with_value, is_root, Effect, leave, hold, point, store, Reply, object_of, reply_of, make_outcome}
+use Rattle.model.specs.Plain.{Graph, no_entries, alter_entry, with_effect, plain, graph_of, with_entry}
 use Rattle.model.specs.Trains.{Obj, Train, Trains, train_objects, objects, words_in_use, times, is, one_if, inside, alter, alter_object, arrival, numbers, lowest_free, capacity}
 use Rattle.model.specs.Claims.{Wish}
 use Rattle.model.specs.Step.{first_to, outside}
-use Rattle.model.specs.Space.{Model, opening, all_objects, space_make, made_by, has_room, space_with, step_by, step_on, act, space_of, Use}
+use Rattle.model.specs.Space.{Model, opening, all_objects, made_by, has_room, space_with, step_by, step_on, act, space_of, Use}
 use Rattle.model.specs.Reach.{by_root, by_ref, GraphReaches, SpaceReaches}
 use Rattle.model.specs.Laws.{PlainAnswer, PlainAnswers, FullExactly, FullExactlyWhen, SameReach, AnswersAreThePlainGraphs}
 use Rattle.model.specs.Sound.{Sound}
@@ -44,7 +44,7 @@ module _ (find other : ℕ → Option Body) (rs : Roots) (agree : (r x : ℕ) �
     where
       go : (h : Option ℕ) → held rs r ≡ h → object_of find h ≡ object_of other h
       go None e = refl
-      go (Some x) e = ap (with_body x) (agree r x e)
+      go (Some x) e = ap (option_map (λ (b : Body). (x, b))) (agree r x e)
 
   pub reply_agrees : (c : Access) → reply_of find rs c ≡ reply_of other rs c
   reply_agrees (link r i q) = rw (object_agrees r)
@@ -110,7 +110,7 @@ effect_sim M (store x w v) g m s = record {
 }
 
 made_sim : (b : Body) (r : ℕ) (g : Graph) (m : Model) → Sim g m
-    → Sim (record { entries = g.entries ++ (b ∷ []); roots = set g.roots r (Some (length g.entries)) }) (made_by b r m)
+    → Sim (with_entry b r g) (made_by b r m)
 made_sim b r g m s =
     let o : Obj = record { id = m.made; body = b } in
     record {
@@ -132,8 +132,8 @@ no_make M c a m h = record { only = λ r k x y e q. absurd (h r k x y e); always
 
 abbrev Made : Meaning → (a b c : Bool) → (r k x y : ℕ) → Graph → Model → Type 0
 Made M a b c r k x y g m =
-    let o = space_make a b c (fresh M k x y) r m in
-    let p = plain_make a b (is_full o.answer) (fresh M k x y) r g in
+    let o = make_outcome a b (not c) m (made_by (fresh M k x y) r m) in
+    let p = make_outcome a b (is_full o.answer) g (with_entry (fresh M k x y) r g) in
     Sim p.state o.state × (o.answer ≡ p.answer) × (o.answer ≡ refused full → c ≡ false) × (a ≡ true → b ≡ true → c ≡ false → o.answer ≡ refused full)
 
 made : (M : Meaning) (a b c : Bool) (r k x y : ℕ) (g : Graph) (m : Model) → Sim g m → Made M a b c r k x y g m

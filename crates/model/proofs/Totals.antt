@@ -1,7 +1,7 @@
 -- Numbers added up over objects: carrying and placing lose nothing and make nothing.
-use Rattle.std.proofs.Common.{◌≡◌, ℕ, zero, suc, ◌+◌, Bool, true, false, eqb, List, [], ◌∷◌, ◌++◌, length, Some, None, Option, refl, arith}
+use Rattle.std.proofs.Common.{◌≡◌, ℕ, zero, suc, ◌+◌, Bool, true, false, eqb, List, [], ◌∷◌, ◌++◌, length, Some, None, Option, refl, arith, cond, not}
 use Rattle.model.specs.Trains.{Obj, Train, Trains, train_objects, objects, total, place, place_at, fits, with_object, opened, numbers, lowest_free}
-use Rattle.model.specs.Claims.{Taken, sort_out, take_out, then, visit, close, claim, Wish, Claim, all_to, claims}
+use Rattle.model.specs.Claims.{Taken, take_out, in_front, visit, close, claim, Wish, Claim, all_to, claims}
 use Rattle.model.specs.Step.{claimed, place_all, trim}
 
 module _ (f : Obj → ℕ) where
@@ -10,38 +10,39 @@ module _ (f : Obj → ℕ) where
   total-++ (x ∷ xs) ys = omega (arith, total-++ xs ys)
 
   -- what was taken and what is left
-  abbrev pub both : Taken → ℕ
-  both t = total f t.objs + total f t.left
-
-  sort_total : (b : Bool) (o : Obj) (t : Taken) → both (sort_out b o t) ≡ f o + both t
-  sort_total true o t = omega arith
-  sort_total false o t = omega arith
+  abbrev pub both : Taken Obj → ℕ
+  both t = total f t.taken + total f t.left
 
   pub take_out-total : (x : ℕ) (os : List Obj) → both (take_out x os) ≡ total f os
   take_out-total x [] = refl
-  take_out-total x (o ∷ os) = omega (arith, sort_total (eqb x o.id) o (take_out x os), take_out-total x os)
+  take_out-total x (o ∷ os) = go (eqb x o.id) (take_out-total x os)
+    where
+      go : (b : Bool) → both (take_out x os) ≡ total f os
+          → total f (cond b (o ∷ (take_out x os).taken) (take_out x os).taken) + total f (cond (not b) (o ∷ (take_out x os).left) (take_out x os).left) ≡ f o + total f os
+      go true h = omega (arith, h)
+      go false h = omega (arith, h)
 
-  then_total : (os : List Obj) (t : Taken) → both (then os t) ≡ total f os + both t
-  then_total os t = omega (arith, total-++ os t.objs)
+  then_total : (os : List Obj) (t : Taken Obj) → both (in_front os t) ≡ total f os + both t
+  then_total os t = omega (arith, total-++ os t.taken)
 
   pub visit-total : (rs : List (Option ℕ)) (left : List Obj) → both (visit rs left) ≡ total f left
   visit-total [] left = omega arith
   visit-total (None ∷ rs) left = visit-total rs left
   visit-total (Some x ∷ rs) left =
       let t = take_out x left in
-      omega (arith, then_total t.objs (visit rs t.left), visit-total rs t.left, take_out-total x left)
+      omega (arith, then_total t.taken (visit rs t.left), visit-total rs t.left, take_out-total x left)
 
   pub close-total : (n : ℕ) (q left : List Obj) → both (close n q left) ≡ total f left
   close-total zero q left = omega arith
   close-total (suc n) [] left = omega arith
   close-total (suc n) (o ∷ q) left =
       let t = visit o.body.refs left in
-      omega (arith, then_total t.objs (close n (q ++ t.objs) t.left), close-total n (q ++ t.objs) t.left, visit-total o.body.refs left)
+      omega (arith, then_total t.taken (close n (q ++ t.taken) t.left), close-total n (q ++ t.taken) t.left, visit-total o.body.refs left)
 
   pub claim-total : (x : ℕ) (left : List Obj) → both (claim x left) ≡ total f left
   claim-total x left =
       let t = take_out x left in
-      omega (arith, then_total t.objs (close (length left) t.objs t.left), close-total (length left) t.objs t.left, take_out-total x left)
+      omega (arith, then_total t.taken (close (length left) t.taken t.left), close-total (length left) t.taken t.left, take_out-total x left)
 
   pub claimed-++ : (xs ys : List Claim) → total f (claimed (xs ++ ys)) ≡ total f (claimed xs) + total f (claimed ys)
   claimed-++ [] ys = omega arith
@@ -52,18 +53,18 @@ module _ (f : Obj → ℕ) where
   all_to-total k (o ∷ os) = omega (arith, all_to-total k os)
 
   -- each object of the car is claimed or left
-  pub claims-total : (ws : List Wish) (left : List Obj) → total f (claimed (claims ws left).row) + total f (claims ws left).left ≡ total f left
+  pub claims-total : (ws : List Wish) (left : List Obj) → total f (claimed (claims ws left).taken) + total f (claims ws left).left ≡ total f left
   claims-total [] left = omega arith
   claims-total (w ∷ ws) left =
       let t = claim w.who left in
       let c = claims ws t.left in
-      omega (arith, claimed-++ (all_to w.rank t.objs) c.row, all_to-total w.rank t.objs, claims-total ws t.left, claim-total w.who left)
+      omega (arith, claimed-++ (all_to w.rank t.taken) c.taken, all_to-total w.rank t.taken, claims-total ws t.left, claim-total w.who left)
 
   pub place-total : (n : ℕ) (o : Obj) (t : Train) → total f (train_objects (place n o t)) ≡ total f (train_objects t) + f o
   place-total n o [] = omega arith
   place-total n o (c ∷ []) = go (fits c o)
     where
-      go : (b : Bool) → total f (train_objects (elim b [ true ↦ with_object o c ∷ [] | false ↦ c ∷ opened n o ∷ [] ])) ≡ total f (train_objects (c ∷ [])) + f o
+      go : (b : Bool) → total f (train_objects (cond b (with_object o c ∷ []) (c ∷ opened n o ∷ []))) ≡ total f (train_objects (c ∷ [])) + f o
       go true = omega (arith, total-++ (c.objects ++ (o ∷ [])) [], total-++ c.objects (o ∷ []), total-++ c.objects [])
       go false = omega (arith, total-++ c.objects (o ∷ []), total-++ c.objects [])
   place-total n o (c ∷ d ∷ cs) =

@@ -1,5 +1,5 @@
 -- Waste stays behind: what was unreachable at a halt is never held again, and never lies in a later train than it may.
-use Rattle.std.proofs.Common.{◌≡◌, ℕ, zero, suc, pred, ◌+◌, ◌-◌, ◌≤◌, Bool, true, false, cond, eqb, List, [], ◌∷◌, ◌++◌, get_or, replicate, Some, None, Option, sym, refl, subst, arith}
+use Rattle.std.proofs.Common.{◌≡◌, ℕ, zero, suc, pred, ◌+◌, ◌-◌, ◌≤◌, Bool, true, false, cond, eqb, List, [], ◌∷◌, ◌++◌, get_or, replicate, Some, None, Option, sym, refl, subst, arith, not}
 use Rattle.std.specs.List.{AllByRecursion}
 use Rattle.layout.specs.Meaning.{Meaning}
 use Rattle.remembered.specs.Meaning.{Meaning as Remembers}
@@ -7,13 +7,13 @@ use Rattle.model.specs.Calls.{Call, make, access, step, tally}
 use Rattle.model.specs.Bodies.{Body, Roots, fresh, held, is_root, with_ref, with_value, Effect, leave, hold, point, store, reply_of}
 use Rattle.model.specs.Trains.{Obj, Car, Train, Trains, train_objects, objects, place_at, numbers, lowest_free, arrival, inside, among, alter_object, alter}
 use Rattle.model.specs.Claims.{Wish, ref_wishes, train_wishes, trains_wishes, Claim, claims}
-use Rattle.model.specs.Step.{Mark, first_to, outside, mark_wishes, wishes, place_all, mark_after, guard}
-use Rattle.model.specs.Space.{Model, all_objects, act, step_on, step_by, space_make, space_with, has_room}
+use Rattle.model.specs.Step.{first_to, outside, mark_wishes, wishes, place_all, mark_after, guard}
+use Rattle.model.specs.Space.{Model, all_objects, act, step_on, step_by, space_with, has_room, made_by}
 use Rattle.model.specs.Sound.{Points}
 use Rattle.model.proofs.Alls.{all_left, all_right, place_train_all, place_at_all, all_++}
 use Rattle.model.proofs.Alters.{objects-alter, train_alter, alter_all, set_either}
 use Rattle.model.proofs.Effects.{Brings, brings}
-use Rattle.model.proofs.Keeps.{step_all, inside_all}
+use Rattle.model.proofs.Keeps.{step_all, inside_all, make_cases}
 use Rattle.model.proofs.WasteClaims.{Leads, Sent, Goes, claims_of, ref_sent, train_sent}
 
 abbrev pub Not : (ℕ → Type 0) → ℕ → Type 0
@@ -71,11 +71,8 @@ module _ (G : ℕ → Type 0) where
   apart_with M m (point x i h) b a = record { new = a.new; roots = a.roots; leads = leads_alter x (with_ref i h) m.trains (ref_leads x i h b.1) a.leads }
   apart_with M m (store x w v) b a = record { new = a.new; roots = a.roots; leads = leads_alter x (with_value w v) m.trains (value_leads x w v) a.leads }
 
-  apart_make : (M : Meaning) (k a b r : ℕ) (p q s : Bool) (m : Model) → Apart G m → Apart G (space_make p q s (fresh M k a b) r m).state
-  apart_make M k a b r false q s m h = h
-  apart_make M k a b r true false s m h = h
-  apart_make M k a b r true true false m h = h
-  apart_make M k a b r true true true m h = record {
+  apart_made : (M : Meaning) (k a b r : ℕ) (m : Model) → Apart G m → Apart G (made_by (fresh M k a b) r m)
+  apart_made M k a b r m h = record {
     new = λ x l. h.new x (omega arith);
     roots = λ q x e. set_either m.roots r q (Some m.made) x (Not G x) (h.roots q x) (λ i. let d : m.made ≡ x = cc in h.new x (omega arith)) e;
     leads = place_at_all (Leads (Not G)) (arrival m.trains) (lowest_free (numbers m.trains)) (record { id = m.made; body = fresh M k a b }) m.trains
@@ -84,7 +81,9 @@ module _ (G : ℕ → Type 0) where
 
   -- no call brings back what is of G
   pub apart_act : (M : Meaning) (has : Remembers) (c : Call) (m : Model) → Apart G m → Apart G (act M has c m).state
-  apart_act M has (make r k a b) m h = apart_make M k a b r (is_root r) (M.admits k a b) (has_room (fresh M k a b) m) m h
+  apart_act M has (make r k a b) m h =
+      make_cases (λ o. Apart G o.state) (is_root r) (M.admits k a b) (not (has_room (fresh M k a b) m)) m (made_by (fresh M k a b) r m)
+      (λ n. h) (λ ok room. apart_made M k a b r m h)
   apart_act M has (access c) m h =
       apart_with M m (reply_of (inside (all_objects m)) m.roots c).effect
       (brings (inside (all_objects m)) m.roots (Not G) h.roots
@@ -108,8 +107,8 @@ module _ (G : ℕ → Type 0) where
   abbrev pub Bound : ℕ → ℕ → ℕ → Type 0
   Bound b k x = b ≤ k → Not G x
 
-  abbrev pub CleanMark : ℕ → Option Mark → Type 0
-  CleanMark b mk = (w : Mark) → mk ≡ Some w → Bound b w.rank w.who
+  abbrev pub CleanMark : ℕ → Option Wish → Type 0
+  CleanMark b mk = (w : Wish) → mk ≡ Some w → Bound b w.rank w.who
 
   clean_place_at : (b k n : ℕ) (o : Obj) (ts : Trains) → Bound b k o.id → Clean b ts → Clean b (place_at k n o ts)
   clean_place_at zero k n o [] f h = ((f (omega arith), tt), tt)
@@ -157,11 +156,11 @@ module _ (G : ℕ → Type 0) where
       (train_bound b k t (λ q. absurd (omega (arith, q, e))) (all_left (Leads (Not G)) (train_objects t) (objects ts) l))
       (trains_bound b c (k + 1) ts (omega arith) h (all_right (Leads (Not G)) (train_objects t) (objects ts) l))
 
-  mark_bound : (b : ℕ) (mk : Option Mark) → CleanMark b mk → AllByRecursion (Sent (Bound b)) (mark_wishes mk)
+  mark_bound : (b : ℕ) (mk : Option Wish) → CleanMark b mk → AllByRecursion (Sent (Bound b)) (mark_wishes mk)
   mark_bound b None h = tt
   mark_bound b (Some w) h = (h w refl, tt)
 
-  module _ (b : ℕ) (rs : Roots) (mk : Option Mark) (f : Car) (cs : Train) (ts : Trains)
+  module _ (b : ℕ) (rs : Roots) (mk : Option Wish) (f : Car) (cs : Train) (ts : Trains)
       (apart : (r x : ℕ) → held rs r ≡ Some x → Not G x) (leads : AllByRecursion (Leads (Not G)) (objects ((f ∷ cs) ∷ ts)))
       (clean : Clean b ((f ∷ cs) ∷ ts)) (marked : CleanMark b mk) where
     leads_first : AllByRecursion (Leads (Not G)) (train_objects (f ∷ cs))
@@ -190,25 +189,25 @@ module _ (G : ℕ → Type 0) where
     bound_leads (o ∷ os) h = (λ k n i y e q. h.0 (n q) i y e, bound_leads os h.1)
 
     -- the trains that the objects carried are placed in
-    pub clean_placed : (busy : List ℕ) → Clean b (place_all busy (claims (wishes rs mk f cs ts) f.objects).row (cs ∷ ts))
+    pub clean_placed : (busy : List ℕ) → Clean b (place_all busy (claims (wishes rs mk f cs ts) f.objects).taken (cs ∷ ts))
     clean_placed busy =
-        clean_place_all b busy (claims (wishes rs mk f cs ts) f.objects).row (cs ∷ ts)
+        clean_place_all b busy (claims (wishes rs mk f cs ts) f.objects).taken (cs ∷ ts)
         (claims_of (Bound b) (wishes rs mk f cs ts) f.objects wishes_bound (bound_leads f.objects (all_left (Leads (Not G)) f.objects (train_objects cs) leads_first)))
         (clean_car b f cs ts clean)
 
   -- a mark that stands after a step is the old one or the first outside reference
-  pub mark_clean : (b out : ℕ) (w : Wish) (os : List Obj) (mk : Option Mark) → Bound b w.rank w.who → CleanMark b mk → CleanMark b (guard (mark_after os mk) out w)
+  pub mark_clean : (b out : ℕ) (w : Wish) (os : List Obj) (mk : Option Wish) → Bound b w.rank w.who → CleanMark b mk → CleanMark b (guard (mark_after os mk) out w)
   mark_clean b out w os mk f h = go mk h
     where
-      new : (n : ℕ) (v : Mark) → guard None n w ≡ Some v → Bound b v.rank v.who
-      new zero v e = let d : record { who = w.who; rank = w.rank } ≡ v = cc in subst (λ (u : Mark). Bound b u.rank u.who) d f
+      new : (n : ℕ) (v : Wish) → guard None n w ≡ Some v → Bound b v.rank v.who
+      new zero v e = let d : w ≡ v = cc in subst (λ (u : Wish). Bound b u.rank u.who) d f
       new (suc n) v e = absurd (let z : ◌≡◌ {A = ℕ} 0 1 = cc in omega arith)
 
-      old : (u v : Mark) → CleanMark b (Some u) → (t : Bool) → guard (elim t [ true ↦ None | false ↦ Some u ]) out w ≡ Some v → Bound b v.rank v.who
+      old : (u v : Wish) → CleanMark b (Some u) → (t : Bool) → guard (cond t None (Some u)) out w ≡ Some v → Bound b v.rank v.who
       old u v h true e = new out v e
       old u v h false e = h v e
 
-      go : (mk : Option Mark) → CleanMark b mk → CleanMark b (guard (mark_after os mk) out w)
+      go : (mk : Option Wish) → CleanMark b mk → CleanMark b (guard (mark_after os mk) out w)
       go None h v e = new out v e
       go (Some u) h v e = old u v h (among u.who os) e
 
@@ -224,9 +223,6 @@ module _ (G : ℕ → Type 0) where
   clean_with M b m (point x i v) h = clean_alter b x (with_ref i v) m.trains h
   clean_with M b m (store x w v) h = clean_alter b x (with_value w v) m.trains h
 
-  pub clean_make : (d : Body) (b r : ℕ) (p q s : Bool) (m : Model) → Apart G m → Clean b m.trains → Clean b (space_make p q s d r m).state.trains
-  clean_make d b r false q s m a h = h
-  clean_make d b r true false s m a h = h
-  clean_make d b r true true false m a h = h
-  clean_make d b r true true true m a h =
+  pub clean_made : (d : Body) (b r : ℕ) (m : Model) → Apart G m → Clean b m.trains → Clean b (made_by d r m).trains
+  clean_made d b r m a h =
       clean_place_at b (arrival m.trains) (lowest_free (numbers m.trains)) (record { id = m.made; body = d }) m.trains (λ q. a.new m.made (omega arith)) h

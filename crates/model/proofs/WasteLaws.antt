@@ -10,7 +10,6 @@ use Rattle.model.specs.Calls.{History}
 use Rattle.model.specs.Bodies.{Body, Roots, size}
 use Rattle.model.specs.Plain.{graph_of}
 use Rattle.model.specs.Trains.{Distinct, Obj, Train, Trains, train_objects, objects, words_of, one_of, times, is, one_if, inside}
-use Rattle.model.specs.Step.{Mark}
 use Rattle.model.specs.Space.{Model, all_objects, space_of, Use}
 use Rattle.model.specs.Reach.{by_root, by_ref, SpaceReaches, Unreachable}
 use Rattle.model.specs.Laws.{steps, train_steps, WasteUpTo, GoneAfter, WasteNearTheFrontLeavesSooner, WasteLeavesInCountedSteps, size_of, sizes, WordsInUseAreOfTheReachableAndTheNew}
@@ -24,6 +23,7 @@ use Rattle.model.proofs.WasteClean.{Not, Apart, apart_act, Clean}
 use Rattle.model.proofs.WasteProgress.{toil_high}
 use Rattle.model.proofs.WasteGoing.{GoingAt, Going, going_act, ended}
 use Rattle.model.proofs.Alls.{all_map}
+use Rattle.model.specs.Claims.{Wish}
 
 -- an object is found under its identity, if each identity is there once
 self : (o : Obj) → is o.id o ≡ 1
@@ -75,8 +75,8 @@ clean_start G b [] h = tt
 clean_start G zero (t ∷ ts) h = (lies_all (Not G) (train_objects t) (λ x. h 0 x (omega arith)), clean_start G zero ts (λ k x l. h (suc k) x (omega arith)))
 clean_start G (suc b) (t ∷ ts) h = clean_start G b ts (λ k x l. h (suc k) x (omega arith))
 
-going_start : (G : ℕ → Type 0) (j made : ℕ) (rs : Roots) (mk : Option Mark) (ts : Trains) → SoundAt made rs ts mk
-    → ((k x : ℕ) → j < k → 1 ≤ times x (train_objects (get_or ts k [])) → Not G x) → ((w : Mark) → mk ≡ Some w → j < w.rank → Not G w.who)
+going_start : (G : ℕ → Type 0) (j made : ℕ) (rs : Roots) (mk : Option Wish) (ts : Trains) → SoundAt made rs ts mk
+    → ((k x : ℕ) → j < k → 1 ≤ times x (train_objects (get_or ts k [])) → Not G x) → ((w : Wish) → mk ≡ Some w → j < w.rank → Not G w.who)
     → GoingAt G ((j + 1) * train_steps) 0 mk ts
 going_start G j made rs mk [] s lies marked = record { rank = 0; clean = tt; marked = λ w e. absurd (omega (arith, (s.mark w e).lies)); due = tt }
 going_start G j made rs mk (t ∷ ts) s lies marked = record {

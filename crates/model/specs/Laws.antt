@@ -7,10 +7,11 @@ use Rattle.model.specs.Calls.{Call, make, access, step, tally, full, refused, re
 use Rattle.model.specs.Bodies.{Body, fresh, size, is_root}
 use Rattle.model.specs.Plain.{Graph, graph_of, plain}
 use Rattle.model.specs.Trains.{Trains, train_objects, words_in_use, cars_in_use, numbers, one_of, Distinct, times, inside, capacity, car_count, car_words}
-use Rattle.model.specs.Step.{Mark, place_all}
+use Rattle.model.specs.Step.{place_all}
 use Rattle.model.specs.Space.{Model, space_of, Use, all_objects, carried}
 use Rattle.model.specs.Sound.{Sound}
 use Rattle.model.specs.Reach.{GraphReaches, SpaceReaches, Unreachable}
+use Rattle.model.specs.Claims.{Wish}
 
 -- the answer to a make and to a call on the roots' objects is the plain graph's; it gives none to a step or a tally
 abbrev pub PlainAnswer : Meaning → Call → Answer → Graph → Type 0
@@ -67,7 +68,7 @@ train_steps = 99840
 -- no unreachable object lies in a train of a rank above j, and a mark on one does not send it above j
 pub record WasteUpTo (j : ℕ) (m : Model) : Type 0 where
   pub lies : (k x : ℕ) → j < k → 1 ≤ times x (train_objects (slice_index_or m.trains k [])) → Unreachable m x → ⊥
-  pub marked : (w : Mark) → m.mark ≡ Some w → j < w.rank → Unreachable m w.who → ⊥
+  pub marked : (w : Wish) → m.mark ≡ Some w → j < w.rank → Unreachable m w.who → ⊥
 
 -- however the use goes on, with so many further steps no object that was unreachable at the halt lies in a car
 abbrev pub GoneAfter : Meaning → Remembers → History → ℕ → Type 0
@@ -115,7 +116,7 @@ WordsInUseAreOfTheReachableAndTheNew = (M : Meaning) → Lawful M → (has : Rem
 abbrev pub moment : ℕ → Model → Trains → Trains
 moment n m [] = []
 moment n m ([] ∷ ts) = [] ∷ ts
-moment n m ((f ∷ cs) ∷ ts) = (f ∷ []) ∷ place_all (f.number ∷ []) (take n (carried f cs ts m).row) (cs ∷ ts)
+moment n m ((f ∷ cs) ∷ ts) = (f ∷ []) ∷ place_all (f.number ∷ []) (take n (carried f cs ts m).taken) (cs ∷ ts)
 
 -- at most 57 cars are in use, so some number below 64 is free: no car in use has it
 pub record FreeCar (ts : Trains) : Type 0 where

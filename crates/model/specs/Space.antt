@@ -1,13 +1,13 @@
 -- The space: roots, trains, the mark, and what the remembered set was told; and what each call does to it.
-use Rattle.std.specs.Prelude.{◌≡◌, ℕ, suc, ◌+◌, Bool, true, false, List, [], ◌∷◌, length, replicate, Some, None, Option, nat_le, slice_set, map, sum_by, is_some}
+use Rattle.std.specs.Prelude.{◌≡◌, ℕ, suc, ◌+◌, Bool, List, [], ◌∷◌, length, replicate, Some, None, Option, nat_le, slice_set, map, sum_by, is_some, not}
 use Rattle.layout.specs.Meaning.{Meaning}
 use Rattle.remembered.specs.Meaning.{Row, forget, pairs_of}
 use Rattle.remembered.specs.Meaning.{Meaning as Remembers}
-use Rattle.model.specs.Calls.{Call, make, access, step, tally, root, shape, full, refused, done, usage, report, idle, train, car, Report, History}
-use Rattle.model.specs.Bodies.{Body, Roots, fresh, size, with_ref, with_value, root_count, is_root, Effect, leave, hold, point, store, reply_of, Outcome, outcome}
+use Rattle.model.specs.Calls.{Call, make, access, step, tally, usage, report, idle, train, car, Report, History}
+use Rattle.model.specs.Bodies.{Body, Roots, fresh, size, with_ref, with_value, root_count, is_root, Effect, leave, hold, point, store, reply_of, Outcome, outcome, make_outcome}
 use Rattle.model.specs.Trains.{Obj, Car, Train, Trains, train_objects, objects, words_in_use, cars_in_use, car_numbers, numbers, lowest_free, place_at, arrival, inside, alter, capacity}
-use Rattle.model.specs.Claims.{Wish, Carried, claims}
-use Rattle.model.specs.Step.{Mark, first_to, outside, wishes, place_all, trim, out_of, back_of, claimed, copied_of, mark_after, guard}
+use Rattle.model.specs.Claims.{Wish, claims, Taken, Claim}
+use Rattle.model.specs.Step.{first_to, outside, wishes, place_all, trim, out_of, back_of, claimed, copied_of, mark_after, guard}
 use Rattle.model.specs.Notes.{slots, notes, touched, is_slot, tell}
 
 pub record Model : Type 0 where
@@ -15,7 +15,7 @@ pub record Model : Type 0 where
   pub made : ℕ
   pub roots : Roots
   pub trains : Trains
-  pub mark : Option Mark
+  pub mark : Option Wish
   pub told : Row
 
 abbrev pub opening : Model
@@ -33,13 +33,6 @@ made_by b r m = record {
   mark = m.mark;
   told = m.told;
 }
-
--- a make, by its tests in their order
-abbrev pub space_make : (root_ok admitted room : Bool) → Body → ℕ → Model → Outcome Model
-space_make false admitted room b r m = outcome m (refused root)
-space_make true false room b r m = outcome m (refused shape)
-space_make true true false b r m = outcome m (refused full)
-space_make true true true b r m = outcome (made_by b r m) done
 
 abbrev pub has_room : Body → Model → Bool
 has_room b m = nat_le (words_in_use m.trains + size b) capacity
@@ -74,12 +67,12 @@ free_train has t ts m =
     (report (record { kind = train; out = 0; back = 0; copied = 0; lost = length (train_objects t); looked = looked (has m.told) t; cars = length t }))
 
 -- what is carried out of the first car
-abbrev pub carried : Car → Train → Trains → Model → Carried
+abbrev pub carried : Car → Train → Trains → Model → Taken Claim
 carried f cs ts m = claims (wishes m.roots m.mark f cs ts) f.objects
 
 -- the trains once it was placed and the first car is freed
 abbrev pub trains_after : Car → Train → Trains → Model → Trains
-trains_after f cs ts m = trim (place_all (f.number ∷ []) (carried f cs ts m).row (cs ∷ ts))
+trains_after f cs ts m = trim (place_all (f.number ∷ []) (carried f cs ts m).taken (cs ∷ ts))
 
 -- otherwise the first car's objects are carried out, each once, and the car is freed; w is the first outside reference
 abbrev pub free_car : Meaning → Remembers → Wish → Car → Train → Trains → Model → Outcome Model
@@ -91,14 +84,14 @@ free_car M has w f cs ts m =
       made = m.made;
       roots = m.roots;
       trains = after;
-      mark = guard (mark_after f.objects m.mark) (out_of c.row) w;
-      told = tell (notes after (touched (claimed c.row)) (slots M 0 after)) (forget f.number ∷ m.told);
+      mark = guard (mark_after f.objects m.mark) (out_of c.taken) w;
+      told = tell (notes after (touched (claimed c.taken)) (slots M 0 after)) (forget f.number ∷ m.told);
     })
     (report (record {
       kind = car;
-      out = out_of c.row;
-      back = back_of c.row;
-      copied = copied_of c.row;
+      out = out_of c.taken;
+      back = back_of c.taken;
+      copied = copied_of c.taken;
       lost = length c.left;
       looked = looked (has m.told) (f ∷ cs);
       cars = 1;
@@ -115,7 +108,8 @@ step_on M has [] m = outcome m (report nothing_done)
 step_on M has (t ∷ ts) m = step_by M has (first_to (train_objects t) (outside m.roots (t ∷ ts) ts)) t ts m
 
 abbrev pub act : Meaning → Remembers → Call → Model → Outcome Model
-act M has (make r k a b) m = space_make (is_root r) (M.admits k a b) (has_room (fresh M k a b) m) (fresh M k a b) r m
+act M has (make r k a b) m =
+    make_outcome (is_root r) (M.admits k a b) (not (has_room (fresh M k a b) m)) m (made_by (fresh M k a b) r m)
 act M has (access c) m = let p = reply_of (inside (all_objects m)) m.roots c in outcome (space_with M p.effect m) p.answer
 act M has step m = step_on M has m.trains m
 act M has tally m =

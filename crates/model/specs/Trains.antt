@@ -1,6 +1,6 @@
 -- Objects in cars, cars in trains, trains in a row.
-use Rattle.std.specs.Prelude.{◌≡◌, ℕ, zero, suc, pred, ◌+◌, Bool, true, false, cond, ◌&&◌, List, [], ◌∷◌, ◌++◌, length, Option, ◌==◌, nat_le, nat_lt, flat_map, map, find, option_map}
-use Rattle.std.specs.List.{list_any}
+use Rattle.std.specs.Prelude.{◌≡◌, ℕ, zero, suc, pred, ◌+◌, Bool, true, false, cond, ◌&&◌, List, [], ◌∷◌, ◌++◌, length, Option, ◌==◌, nat_le, nat_lt, flat_map, map, find, option_map, if◌then◌else◌}
+use Rattle.std.specs.List.{list_any, prefix_len, range_with_len}
 use Rattle.model.specs.Bodies.{Body, size}
 
 pub record Obj : Type 0 where
@@ -69,13 +69,9 @@ abbrev pub Distinct : List ℕ → Type 0
 Distinct [] = Unit {0}
 Distinct (n ∷ ns) = (one_of n ns ≡ false) × Distinct ns
 
--- the lowest number from n on that is not among the used ones, if it is found in so many tries
-abbrev pub lowest_from : (tries n : ℕ) → List ℕ → ℕ
-lowest_from zero n used = n
-lowest_from (suc k) n used = elim (one_of n used) [ true ↦ lowest_from k (n + 1) used | false ↦ n ]
-
+-- the lowest number that is not among the used ones, or the number of cars if all are used
 abbrev pub lowest_free : List ℕ → ℕ
-lowest_free used = lowest_from car_count 0 used
+lowest_free used = prefix_len (λ n. one_of n used) (range_with_len 0 car_count)
 
 abbrev pub fits : Car → Obj → Bool
 fits c o = nat_le (words_of c.objects + size o.body) car_words
@@ -90,7 +86,7 @@ opened n o = record { number = n; objects = o ∷ [] }
 -- into the last car if it fits, else into the car of number n, which becomes the last
 abbrev pub place : (n : ℕ) → Obj → Train → Train
 place n o [] = opened n o ∷ []
-place n o (c ∷ []) = elim (fits c o) [ true ↦ with_object o c ∷ [] | false ↦ c ∷ opened n o ∷ [] ]
+place n o (c ∷ []) = if fits c o then with_object o c ∷ [] else c ∷ opened n o ∷ []
 place n o (c ∷ d ∷ cs) = c ∷ place n o (d ∷ cs)
 
 -- in the train of a rank; the first object placed behind the last train opens a train
@@ -105,14 +101,11 @@ last_cars (t ∷ []) = length t
 last_cars (t ∷ u ∷ ts) = last_cars (u ∷ ts)
 
 -- the number of trains if there are fewer than eight and the last has four cars or more, else the last train's rank
-abbrev pub arrival_by : (opens : Bool) → (trains : ℕ) → ℕ
-arrival_by true n = n
-arrival_by false n = pred n
-
 abbrev pub arrival : Trains → ℕ
 arrival [] = 0
 arrival (t ∷ []) = 1
-arrival (t ∷ u ∷ ts) = arrival_by (nat_lt (length (t ∷ u ∷ ts)) most_trains && nat_le 4 (last_cars (t ∷ u ∷ ts))) (length (t ∷ u ∷ ts))
+arrival (t ∷ u ∷ ts) =
+    let n = length (t ∷ u ∷ ts) in if nat_lt n most_trains && nat_le 4 (last_cars (t ∷ u ∷ ts)) then n else pred n
 
 abbrev pub one_if : Bool → ℕ
 one_if true = 1
