@@ -1,10 +1,11 @@
 -- A changed reference or data word moves no object and changes no size.
-use Rattle.std.proofs.Common.{◌≡◌, ℕ, zero, suc, Bool, true, false, cond, eqb, List, [], ◌∷◌, ◌++◌, length, get_or, set, Some, None, Option, sym, refl, ap, ◌∙◌, ap₂, arith, length-set}
+use Rattle.std.proofs.Common.{◌≡◌, ℕ, zero, suc, Bool, true, false, cond, eqb, List, [], ◌∷◌, ◌++◌, length, get_or, set, Some, None, Option, sym, refl, ap, ◌∙◌, ap₂, arith, length-set, sum_by}
 use Rattle.std.specs.List.{AllByRecursion}
 use Rattle.std.specs.Prelude.{map}
 use Rattle.model.specs.Bodies.{Body, size, with_ref, with_value}
-use Rattle.model.specs.Trains.{Obj, Train, Trains, train_objects, objects, total, obj_size, words_of, times, is, alter_object, alter_train, alter}
+use Rattle.model.specs.Trains.{Obj, Train, Trains, train_objects, objects, obj_size, words_of, times, alter_object, alter_train, alter}
 use Rattle.model.specs.Sound.{Filled, first_objects, HasCars}
+use Rattle.model.proofs.Totals.{is, sums}
 
 pub ref_size : (i : ℕ) (h : Option ℕ) (b : Body) → size (with_ref i h b) ≡ size b
 ref_size i h b = omega (arith, length-set b.refs i h)
@@ -33,9 +34,9 @@ module _ (x : ℕ) (g : Body → Body) where
   length-alter [] = refl
   length-alter (t ∷ ts) = omega (arith, length-alter ts)
 
-  pub alter-total : (f : Obj → ℕ) → ((o : Obj) → f (alter_object x g o) ≡ f o) → (os : List Obj) → total f (map (alter_object x g) os) ≡ total f os
+  pub alter-total : (f : Obj → ℕ) → ((o : Obj) → f (alter_object x g o) ≡ f o) → (os : List Obj) → sum_by f (map (alter_object x g) os) ≡ sum_by f os
   alter-total f h [] = refl
-  alter-total f h (o ∷ os) = omega (arith, h o, alter-total f h os)
+  alter-total f h (o ∷ os) = omega (arith, sums, h o, alter-total f h os)
 
   pub alter-times : (y : ℕ) (os : List Obj) → times y (map (alter_object x g) os) ≡ times y os
   alter-times y = alter-total (is y) (λ o. refl)

@@ -1,17 +1,18 @@
 -- How full cars are, how many there are, and that one is always free.
-use Rattle.std.proofs.Common.{◌≡◌, ℕ, zero, suc, ◌+◌, ◌*◌, ◌<◌, ◌≤◌, Bool, true, false, ◌&&◌, ltb, leb, List, [], ◌∷◌, ◌++◌, length, take, None, Option, refl, arith, length-append, cond, pred}
+use Rattle.std.proofs.Common.{◌≡◌, ℕ, zero, suc, ◌+◌, ◌*◌, ◌<◌, ◌≤◌, Bool, true, false, ◌&&◌, ltb, leb, List, [], ◌∷◌, ◌++◌, length, take, None, Option, refl, arith, length-append, cond, pred, sum_by}
 use lib.ListN.{length-replicate}
 use Rattle.std.proofs.lemmas.Bool.{leb-true, leb-false, ltb-true, and_parts}
 use Rattle.std.specs.List.{AllByRecursion}
+use Rattle.std.proofs.lemmas.List.Sums.{sum_by-append}
 use Rattle.layout.specs.Meaning.{Meaning, Lawful}
 use Rattle.model.specs.Bodies.{fresh, size}
-use Rattle.model.specs.Trains.{Obj, Car, Train, Trains, train_objects, objects, total, obj_size, words_of, words_in_use, cars_in_use, car_numbers, numbers, place, place_at, fits, with_object, opened, lowest_free, last_cars, arrival, most_trains, car_words}
+use Rattle.model.specs.Trains.{Obj, Car, Train, Trains, train_objects, objects, obj_size, words_of, words_in_use, cars_in_use, car_numbers, numbers, place, place_at, fits, with_object, opened, lowest_free, last_cars, arrival, most_trains, car_words}
 use Rattle.model.specs.Claims.{Wish, Claim, claims, Taken}
 use Rattle.model.specs.Step.{claimed, copied_of, place_all, trim}
 use Rattle.model.specs.Space.{Model, carried}
 use Rattle.model.specs.Laws.{moment, FreeCar}
 use Rattle.model.specs.Sound.{Sized, Filled, HasCars}
-use Rattle.model.proofs.Totals.{total-++, claims-total, place_all-total}
+use Rattle.model.proofs.Totals.{claims-total, place_all-total, sums}
 use Rattle.model.proofs.Alls.{claims_all, claimed_all_take, all_take}
 use Rattle.model.proofs.Distinct.{lowest_unused}
 
@@ -41,7 +42,7 @@ filled_place n o (c ∷ []) s p = go (fits c o) refl
     go : (b : Bool) → fits c o ≡ b → Filled (cond b (with_object o c ∷ []) (c ∷ opened n o ∷ []))
     go true e =
         let h : words_of c.objects + obj_size o ≤ car_words = leb-true (words_of c.objects + obj_size o) car_words e in
-        let w = total-++ obj_size c.objects (o ∷ []) in
+        let w = sum_by-append obj_size c.objects (o ∷ []) in
         (omega arith, omega arith)
     go false e =
         let h : car_words < words_of c.objects + obj_size o = leb-false (words_of c.objects + obj_size o) car_words e in
@@ -141,11 +142,11 @@ arrival_below (t ∷ u ∷ ts) l = go (ltb (length (t ∷ u ∷ ts)) most_trains
 train_by_words : (t : Train) → Filled t → 65 * length t ≤ words_of (train_objects t) + 65
 train_by_words [] p = omega arith
 train_by_words (c ∷ []) p = omega arith
-train_by_words (c ∷ d ∷ cs) p = omega (arith, p.0, total-++ obj_size c.objects (train_objects (d ∷ cs)), train_by_words (d ∷ cs) p.2)
+train_by_words (c ∷ d ∷ cs) p = omega (arith, p.0, sum_by-append obj_size c.objects (train_objects (d ∷ cs)), train_by_words (d ∷ cs) p.2)
 
 pub cars_by_words : (ts : Trains) → AllByRecursion Filled ts → 65 * cars_in_use ts ≤ words_in_use ts + 65 * length ts
 cars_by_words [] p = omega arith
-cars_by_words (t ∷ ts) p = omega (arith, total-++ obj_size (train_objects t) (objects ts), train_by_words t p.0, cars_by_words ts p.1)
+cars_by_words (t ∷ ts) p = omega (arith, sums, sum_by-append obj_size (train_objects t) (objects ts), train_by_words t p.0, cars_by_words ts p.1)
 
 pub few_cars : (ts : Trains) → AllByRecursion Filled ts → words_in_use ts ≤ 3072 → length ts ≤ 8 → cars_in_use ts ≤ 55
 few_cars ts p w l = omega (arith, cars_by_words ts p)
@@ -156,7 +157,7 @@ length-car_numbers (c ∷ cs) = omega (arith, length-car_numbers cs)
 
 pub length-numbers : (ts : Trains) → length (numbers ts) ≡ cars_in_use ts
 length-numbers [] = refl
-length-numbers (t ∷ ts) = omega (arith, length-append (car_numbers t) (numbers ts), length-car_numbers t, length-numbers ts)
+length-numbers (t ∷ ts) = omega (arith, sums, length-append (car_numbers t) (numbers ts), length-car_numbers t, length-numbers ts)
 
 pub free_car : (ts : Trains) → cars_in_use ts ≤ 57 → FreeCar ts
 free_car ts h =
@@ -168,10 +169,10 @@ free_car ts h =
 pub copied_few : (f : Car) (ws : List Wish) → words_of f.objects ≤ 128 → copied_of (claims ws f.objects).taken ≤ 128
 copied_few f ws h = omega (arith, claims-total obj_size ws f.objects)
 
-pub total-take : (g : Obj → ℕ) (n : ℕ) (row : List Claim) → total g (claimed (take n row)) ≤ total g (claimed row)
+pub total-take : (g : Obj → ℕ) (n : ℕ) (row : List Claim) → sum_by g (claimed (take n row)) ≤ sum_by g (claimed row)
 total-take g zero row = omega arith
 total-take g (suc n) [] = omega arith
-total-take g (suc n) (c ∷ row) = omega (arith, total-take g n row)
+total-take g (suc n) (c ∷ row) = omega (arith, sums, total-take g n row)
 
 -- the cars while a row is placed, the first car not counted
 pub few_placed : (busy : List ℕ) (row : List Claim) (f : Car) (cs : Train) (ts : Trains)
@@ -184,9 +185,9 @@ few_placed busy row f cs ts p w l s r u =
     (omega (
       arith,
       place_all-total obj_size busy row (cs ∷ ts),
-      total-++ obj_size (f.objects ++ train_objects cs) (objects ts),
-      total-++ obj_size f.objects (train_objects cs),
-      total-++ obj_size (train_objects cs) (objects ts),
+      sum_by-append obj_size (f.objects ++ train_objects cs) (objects ts),
+      sum_by-append obj_size f.objects (train_objects cs),
+      sum_by-append obj_size (train_objects cs) (objects ts),
     ))
     (length-place_all busy row (cs ∷ ts) r l).1
 
@@ -196,11 +197,11 @@ pub free_at_moment : (f : Car) (cs : Train) (ts : Trains) (m : Model)
     → (n : ℕ) → FreeCar (moment n m ((f ∷ cs) ∷ ts))
 free_at_moment f cs ts m p w l s r n = go (carried f cs ts m) (claims_all Sized _ f.objects s).0 r (claims-total obj_size _ f.objects)
   where
-    go : (c : Taken Claim) → AllByRecursion Sized (claimed c.taken) → RanksBelow c.taken → total obj_size (claimed c.taken) + total obj_size c.left ≡ total obj_size f.objects
+    go : (c : Taken Claim) → AllByRecursion Sized (claimed c.taken) → RanksBelow c.taken → sum_by obj_size (claimed c.taken) + sum_by obj_size c.left ≡ sum_by obj_size f.objects
         → FreeCar ((f ∷ []) ∷ place_all (f.number ∷ []) (take n c.taken) (cs ∷ ts))
     go c a b e =
         let k = few_placed (f.number ∷ []) (take n c.taken) f cs ts p w l (claimed_all_take Sized n c.taken a) (all_take _ n c.taken b) (omega (arith, total-take obj_size n c.taken)) in
-        free_car ((f ∷ []) ∷ place_all (f.number ∷ []) (take n c.taken) (cs ∷ ts)) (omega (arith, k))
+        free_car ((f ∷ []) ∷ place_all (f.number ∷ []) (take n c.taken) (cs ∷ ts)) (omega (arith, sums, k))
 
 -- A new object has from 2 to 64 words.
 

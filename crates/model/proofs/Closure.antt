@@ -1,17 +1,17 @@
 -- Carrying is closed: what a claimed object or a wish holds is not left in the car.
-use Rattle.std.proofs.Common.{◌≡◌, ℕ, zero, suc, ◌+◌, ◌≤◌, Bool, true, false, cond, eqb, ◌⊎◌, List, [], ◌∷◌, ◌++◌, length, get_or, Some, None, Option, sym, refl, ap, ◌∙◌, subst, inl, inr, arith, length-append, not}
+use Rattle.std.proofs.Common.{◌==◌, ◌≡◌, ℕ, zero, suc, ◌+◌, ◌≤◌, Bool, true, false, cond, eqb, ◌⊎◌, List, [], ◌∷◌, ◌++◌, length, get_or, Some, None, Option, sym, refl, ap, ◌∙◌, subst, inl, inr, arith, length-append, not, sum_by}
 use Rattle.std.proofs.lemmas.Bool.{ne_eqb, eq-eqb}
 use Rattle.std.specs.List.{AllByRecursion}
-use Rattle.model.specs.Trains.{Obj, Train, Trains, train_objects, objects, total, times, is, one_if}
+use Rattle.model.specs.Trains.{Obj, Train, Trains, train_objects, objects, times}
 use Rattle.model.specs.Claims.{take_out, visit, close, claim, Wish, Claim, all_to, claims, ref_wishes, object_wishes, train_wishes, trains_wishes}
-use Rattle.model.specs.Step.{claimed, out_of, is_zero}
-use Rattle.model.proofs.Totals.{take_out-total, visit-total, close-total, claim-total, claims-total}
+use Rattle.model.specs.Step.{claimed, out_of}
+use Rattle.model.proofs.Totals.{take_out-total, visit-total, close-total, claim-total, claims-total, is, one_if, sums}
 use Rattle.model.specs.Sound.{Points}
 use Rattle.model.proofs.Alls.{all_++, all_left, all_right}
 
-pub length-total : (os : List Obj) → total (λ o. 1) os ≡ length os
+pub length-total : (os : List Obj) → sum_by (λ o. 1) os ≡ length os
 length-total [] = refl
-length-total (o ∷ os) = omega (arith, length-total os)
+length-total (o ∷ os) = omega (arith, sums, length-total os)
 
 pub is_self : (x : ℕ) (o : Obj) → x ≡ o.id → is x o ≡ 1
 is_self x o e = ap one_if (eq-eqb x o.id e)
@@ -23,7 +23,7 @@ take_out_none x (o ∷ os) = go (take_out_none x os) (eqb x o.id) refl
   where
     go : times x (take_out x os).left ≡ 0 → (b : Bool) → eqb x o.id ≡ b → times x (cond (not b) (o ∷ (take_out x os).left) (take_out x os).left) ≡ 0
     go h true e = h
-    go h false e = let z : is x o ≡ 0 = ap one_if e in omega (arith, z, h)
+    go h false e = let z : is x o ≡ 0 = ap one_if e in omega (arith, sums, z, h)
 
 visit_less : (rs : List (Option ℕ)) (left : List Obj) (y : ℕ) → times y (visit rs left).left ≤ times y left
 visit_less rs left y = omega (arith, visit-total (is y) rs left)
@@ -148,8 +148,8 @@ pub wished_right : (x : ℕ) (vs ws : List Wish) → Wished x ws → Wished x (v
 wished_right x [] ws h = h
 wished_right x (v ∷ vs) ws h = inr (wished_right x vs ws h)
 
-pub above_counts : (k : ℕ) → 1 ≤ k → ◌≡◌ {A = ℕ} (cond (is_zero k) 0 1) 1
-above_counts k h = ap (λ b. cond b 0 1) (ne_eqb k 0 (λ e. omega arith))
+pub above_counts : (k : ℕ) → 1 ≤ k → ◌≡◌ {A = ℕ} (cond (not (k == 0)) 1 0) 1
+above_counts k h = ap (λ b. cond (not b) 1 0) (ne_eqb k 0 (λ e. omega arith))
 
 -- a wish of a rank above 0 for an object of the car has something leave the first train
 pub out_some : (vs ws : List Wish) (left : List Obj) (x : ℕ) → AllByRecursion (λ w. 1 ≤ w.rank) vs → Wished x vs → 1 ≤ times x left → 1 ≤ out_of (claims (vs ++ ws) left).taken
@@ -160,10 +160,10 @@ out_some (v ∷ vs) ws left x a h l = go (out_some vs ws (claim v.who left).left
     go more (o ∷ os) e =
         let r = (claims (vs ++ ws) (claim v.who left).left).taken in
         subst (λ (ps : List Obj). 1 ≤ out_of (all_to v.rank ps ++ r)) (sym e)
-        (omega (arith, above_counts v.rank a.0))
+        (omega (arith, sums, above_counts v.rank a.0))
     go more [] e =
         let r = (claims (vs ++ ws) (claim v.who left).left).taken in
-        let none : total (is x) (claim v.who left).taken ≡ 0 = ap (total (is x)) e in
+        let none : sum_by (is x) (claim v.who left).taken ≡ 0 = ap (sum_by (is x)) e in
         let same : 1 ≤ times x (claim v.who left).left = omega (arith, l, none, claim-total (is x) v.who left) in
         let later : Wished x vs = elim h [
           | inl q ↦ absurd (let z : times x (claim v.who left).left ≡ 0 = subst (λ y. times y (claim v.who left).left ≡ 0) q (claim_none v.who left) in omega arith)

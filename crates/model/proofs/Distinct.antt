@@ -1,14 +1,11 @@
 -- Lists of numbers, each there once, and the lowest number that is not in a list.
-use Rattle.std.proofs.Common.{◌≡◌, ℕ, zero, suc, ◌+◌, ◌<◌, ◌≤◌, Bool, true, false, ◌||◌, eqb, ◌⊎◌, List, [], ◌∷◌, ◌++◌, length, sym, refl, ap, ◌∙◌, subst, inl, inr, arith, cond, get_or}
+use Rattle.std.proofs.Common.{◌≡◌, ℕ, zero, suc, ◌+◌, ◌<◌, ◌≤◌, Bool, true, false, ◌||◌, eqb, ◌⊎◌, List, [], ◌∷◌, ◌++◌, length, sym, refl, ap, ◌∙◌, subst, inl, inr, arith, cond, get_or, sum_by}
 use Rattle.std.proofs.lemmas.Bool.{both_ways, eqb-true, eqb-false, eq-eqb, ne_eqb, or_cases, or_from, or_left, or_right, cases_lt}
 use Rattle.std.specs.List.{range_with_len, prefix_len}
-use Rattle.std.proofs.lemmas.List.Sums.{prefix_len_stops, prefix_len_passes}
+use Rattle.std.proofs.lemmas.List.Sums.{prefix_len_stops, prefix_len_passes, sum_by-cons}
 use Rattle.std.proofs.lemmas.List.FromFn.{length-range_with_len, get_or-range_with_len}
 use Rattle.model.specs.Trains.{one_of, Distinct, lowest_free}
-
-abbrev pub sum_by : (ℕ → ℕ) → List ℕ → ℕ
-sum_by f [] = 0
-sum_by f (x ∷ xs) = f x + sum_by f xs
+use Rattle.model.proofs.Totals.{sums}
 
 pub one_of_here : (x : ℕ) (xs : List ℕ) → one_of x (x ∷ xs) ≡ true
 one_of_here x xs = or_left (eqb x x) (one_of x xs) (eq-eqb x x refl)
@@ -53,9 +50,9 @@ sum_without f x [] e = absurd (both_ways false refl e)
 sum_without f x (y ∷ ys) e = go (eqb x y) refl e (sum_without f x ys)
   where
     go : (b : Bool) → eqb x y ≡ b → (b || one_of x ys) ≡ true → (one_of x ys ≡ true → sum_by f ys ≡ f x + sum_by f (without x ys))
-        → f y + sum_by f ys ≡ f x + sum_by f (cond b ys (y ∷ without x ys))
-    go true p q more = ap (λ (z : ℕ). f z + sum_by f ys) (sym (eqb-true x y p))
-    go false p q more = omega (arith, more q)
+        → sum_by f (y ∷ ys) ≡ f x + sum_by f (cond b ys (y ∷ without x ys))
+    go true p q more = sum_by-cons f y ys ∙ ap (λ (z : ℕ). f z + sum_by f ys) (sym (eqb-true x y p))
+    go false p q more = omega (arith, sums, more q)
 
 one_of-without : (z x : ℕ) (ys : List ℕ) → eqb z x ≡ false → one_of z ys ≡ true → one_of z (without x ys) ≡ true
 one_of-without z x [] n e = e
@@ -78,14 +75,14 @@ sum_within f [] ys d h = omega arith
 sum_within f (x ∷ xs) ys d h =
     let part = sum_within f xs (without x ys) d.1
     (λ z e. one_of-without z x ys (one_of_apart z x xs e d.0) (h z (one_of_there z x xs e))) in
-    omega (arith, sum_without f x ys (h x (one_of_here x xs)), part)
+    omega (arith, sums, sum_without f x ys (h x (one_of_here x xs)), part)
 
 abbrev one : ℕ → ℕ
 one x = 1
 
 sum_one : (xs : List ℕ) → sum_by one xs ≡ length xs
 sum_one [] = refl
-sum_one (x ∷ xs) = omega (arith, sum_one xs)
+sum_one (x ∷ xs) = omega (arith, sums, sum_one xs)
 
 -- distinct numbers of a list are no more than that list's
 pub length-within : (xs ys : List ℕ) → Distinct xs → ((x : ℕ) → one_of x xs ≡ true → one_of x ys ≡ true) → length xs ≤ length ys

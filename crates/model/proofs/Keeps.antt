@@ -1,17 +1,18 @@
 -- AllByRecursion call keeps the space sound.
-use Rattle.std.proofs.Common.{◌≡◌, ℕ, zero, suc, ◌+◌, ◌<◌, ◌≤◌, Bool, true, false, cond, eqb, List, [], ◌∷◌, ◌++◌, length, get_or, replicate, Some, None, Option, sym, refl, ap, ◌∙◌, subst, inl, inr, arith, not}
+use Rattle.std.proofs.Common.{◌≡◌, ℕ, zero, suc, ◌+◌, ◌<◌, ◌≤◌, Bool, true, false, cond, eqb, List, [], ◌∷◌, ◌++◌, length, get_or, replicate, Some, None, Option, sym, refl, ap, ◌∙◌, subst, inl, inr, arith, not, sum_by}
 use Rattle.std.proofs.lemmas.Bool.{ne_eqb, leb-true, ltb-false, cases_eq, cases_lt, eqb-true, not-false}
 use Rattle.std.specs.List.{AllByRecursion}
 use Rattle.std.specs.Prelude.{option_map, find}
+use Rattle.std.proofs.lemmas.List.Sums.{sum_by-append}
 use Rattle.layout.specs.Meaning.{Meaning, Lawful}
 use Rattle.remembered.specs.Meaning.{Meaning as Remembers}
 use Rattle.model.specs.Calls.{Call, make, access, step, tally, Access, History, Refusal, root, shape, full, refused, done}
 use Rattle.model.specs.Bodies.{Body, held, fresh, size, with_ref, with_value, is_root, root_count, Effect, leave, hold, point, store, reply_of, make_outcome, Outcome, outcome}
-use Rattle.model.specs.Trains.{Obj, Car, Train, Trains, train_objects, objects, total, words_of, words_in_use, obj_size, times, is, one_if, among, inside, alter, alter_object, place, place_at, arrival, numbers, lowest_free, capacity, most_trains}
+use Rattle.model.specs.Trains.{Obj, Car, Train, Trains, train_objects, objects, words_of, words_in_use, obj_size, times, among, inside, alter, alter_object, place, place_at, arrival, numbers, lowest_free, capacity, most_trains}
 use Rattle.model.specs.Claims.{Wish, Claim, claims, ref_wishes, train_wishes, trains_wishes}
 use Rattle.model.specs.Step.{first_to, outside, mark_wishes, wishes, place_all, trim, out_of, mark_after, guard}
 use Rattle.model.specs.Space.{Model, opening, all_objects, made_by, has_room, space_with, carried, trains_after, step_by, step_on, act, space_of}
-use Rattle.model.proofs.Totals.{total-++, claims-total, place-total, place_at-total, place_all-total, trim-objects}
+use Rattle.model.proofs.Totals.{claims-total, place-total, place_at-total, place_all-total, trim-objects, is, one_if, sums}
 use Rattle.model.specs.Sound.{Points, Sized, first_objects, Marked, SoundAt, Sound}
 use Rattle.model.proofs.Alls.{all_++, all_left, all_right, claims_all, place_at_all, place_all_all, all_map, all_with}
 use Rattle.model.proofs.Cars.{filled_tail, filled_place_at, filled_place_all, filled_trim, standing_place_at, standing_trim_all, length-place_at, length-place_all, length-trim, arrival_below, fresh_sized}
@@ -42,7 +43,7 @@ is_few x o = go (eqb x o.id)
 -- an identity not yet given lies nowhere
 pub old_none : (n x : ℕ) (os : List Obj) → n ≤ x → AllByRecursion (λ o. o.id < n) os → times x os ≡ 0
 old_none n x [] h a = refl
-old_none n x (o ∷ os) h a = let k = a.0 in omega (arith, is_other x o (λ e. omega arith), old_none n x os h a.1)
+old_none n x (o ∷ os) h a = let k = a.0 in omega (arith, sums, is_other x o (λ e. omega arith), old_none n x os h a.1)
 
 -- what is found is the body of one of the objects
 pub inside_all : (P : Obj → Type 0) (os : List Obj) (x : ℕ) (b : Body) → inside os x ≡ Some b → AllByRecursion P os → P (record { id = x; body = b })
@@ -194,18 +195,18 @@ module _ (M : Meaning) (law : Lawful M) where
 
 -- what is lost, and what lies in cars after, was there before
 pub step_total : (w : Obj → ℕ) (f : Car) (cs : Train) (ts : Trains) (m : Model)
-    → total w (objects (trains_after f cs ts m)) + total w (carried f cs ts m).left ≡ total w (objects ((f ∷ cs) ∷ ts))
+    → sum_by w (objects (trains_after f cs ts m)) + sum_by w (carried f cs ts m).left ≡ sum_by w (objects ((f ∷ cs) ∷ ts))
 step_total w f cs ts m =
     let c = carried f cs ts m in
     let R = place_all (f.number ∷ []) c.taken (cs ∷ ts) in
     omega (
       arith,
-      ap (total w) (trim-objects R),
+      ap (sum_by w) (trim-objects R),
       place_all-total w (f.number ∷ []) c.taken (cs ∷ ts),
       claims-total w (wishes m.roots m.mark f cs ts) f.objects,
-      total-++ w (f.objects ++ train_objects cs) (objects ts),
-      total-++ w f.objects (train_objects cs),
-      total-++ w (train_objects cs) (objects ts),
+      sum_by-append w (f.objects ++ train_objects cs) (objects ts),
+      sum_by-append w f.objects (train_objects cs),
+      sum_by-append w (train_objects cs) (objects ts),
     )
 
 -- what holds of each object before holds of each after
@@ -268,7 +269,7 @@ module _ (f : Car) (cs : Train) (ts : Trains) (m : Model) (s : SoundAt m.made m.
       let c = carried f cs ts m in
       let R = place_all (f.number ∷ []) c.taken (cs ∷ ts) in
       let below = claims_below (wishes m.roots m.mark f cs ts) f.objects (wishes_below m.roots m.mark f cs ts s.few s.mark) in
-      let g : 1 ≤ times x (first_objects R) = omega (arith, grows_place_all x (f.number ∷ []) c.taken (cs ∷ ts), total-++ (is x) f.objects (train_objects cs)) in
+      let g : 1 ≤ times x (first_objects R) = omega (arith, grows_place_all x (f.number ∷ []) c.taken (cs ∷ ts), sum_by-append (is x) f.objects (train_objects cs)) in
       let t = trim-first x R g in
       (t.0, omega (arith, t.1, (length-place_all (f.number ∷ []) c.taken (cs ∷ ts) below s.few).0))
 
@@ -344,7 +345,7 @@ train_sound : (has : Remembers) (t : Train) (ts : Trains) (m : Model) → SoundA
 train_sound has t ts m s e =
     let none = first_none (train_objects t) (outside m.roots (t ∷ ts) ts) e in
     let P : Wish → Type 0 = λ w. times w.who (train_objects t) ≡ 0 in
-    let both : (w : Obj → ℕ) → total w (train_objects t ++ objects ts) ≡ total w (train_objects t) + total w (objects ts) = λ w. total-++ w (train_objects t) (objects ts) in
+    let both : (w : Obj → ℕ) → sum_by w (train_objects t ++ objects ts) ≡ sum_by w (train_objects t) + sum_by w (objects ts) = λ w. sum_by-append w (train_objects t) (objects ts) in
     record {
       old = all_right _ (train_objects t) (objects ts) s.old;
       once = λ x. omega (arith, both (is x), s.once x);

@@ -4,6 +4,7 @@ use lib.ListN.{length-replicate}
 use Rattle.std.proofs.lemmas.Bool.{eqb-false, ltb-false, or_parts}
 use Rattle.std.specs.List.{AllByRecursion}
 use Rattle.std.specs.Prelude.{map}
+use Rattle.std.proofs.lemmas.List.Sums.{sum_by-append}
 use Rattle.layout.specs.Meaning.{Meaning, Lawful}
 use Rattle.remembered.specs.Meaning.{Row, forget}
 use Rattle.remembered.specs.Meaning.{Meaning as Remembers, Lawful as RemembersLawfully}
@@ -15,7 +16,7 @@ use Rattle.model.specs.Step.{first_to, outside, wishes, claimed, place_all}
 use Rattle.model.specs.Notes.{Seat, seat, Slot, train_slots, slots, notes, target_among, touched, is_slot, tell}
 use Rattle.model.specs.Space.{Model, all_objects, made_by, has_room, space_with, carried, trains_after, step_by, step_on, act, space_of}
 use Rattle.model.specs.Remembered.{NoReferenceIsOverlooked}
-use Rattle.model.proofs.Totals.{total-++, claims-total, place_at-total}
+use Rattle.model.proofs.Totals.{claims-total, place_at-total, sums}
 use Rattle.model.specs.Sound.{Points, Sized, Filled, SoundAt, Sound}
 use Rattle.model.proofs.Alls.{all_left, all_right, claims_all, place_at_all, all_map, all_with}
 use Rattle.model.proofs.Distinct.{one_of_here, one_of_there, one_of_apart, lowest_unused}
@@ -70,8 +71,8 @@ module _ (M : Meaning) (law : Lawful M) where
   objects_below a [] l p = tt
   objects_below a (o ∷ os) l p =
       let q = p.0 in (
-        refs_below o.body.shape q.0 o.id a 0 o.body.refs (omega (arith, q.1)) (omega (arith, q.1, q.2, l)),
-        objects_below (a + size o.body) os (omega (arith, l)) p.1,
+        refs_below o.body.shape q.0 o.id a 0 o.body.refs (omega (arith, q.1)) (omega (arith, sums, q.1, q.2, l)),
+        objects_below (a + size o.body) os (omega (arith, sums, l)) p.1,
       )
 
   cars_below : (t : Train) → Within t → ((z : ℕ) → one_of z (car_numbers t) ≡ true → z < 64) → AllByRecursion (λ o. Shaped M o.body) (train_objects t) → InCars M Below t
@@ -227,7 +228,7 @@ place_all-numbered f (c ∷ row) ts p w l s r k =
     let unused = (or_parts (eqb n f) (one_of n (numbers ts)) free.1).1 in
     let size-more = place_at-total obj_size c.rank n c.object ts in
     place_all-numbered f row (place_at c.rank n c.object ts) (filled_place_at c.rank n c.object ts s.0 p)
-    (omega (arith, w, size-more)) (length-place_at c.rank n c.object ts r.0 l).1 s.1 r.1
+    (omega (arith, sums, w, size-more)) (length-place_at c.rank n c.object ts r.0 l).1 s.1 r.1
     (placed-numbered n c.object (cars_in_row ts) (cars_in_row (place_at c.rank n c.object ts)) (place_at-placed c.rank n c.object ts) free.0
     (subst (λ (ns : List ℕ). one_of n ns ≡ false) (sym (row_numbers ts)) unused) k)
 
@@ -247,7 +248,7 @@ place_all_noted M has r os busy (c ∷ row) ts a p =
 times_self : (os : List Obj) → AllByRecursion (λ o. 1 ≤ times o.id os) os
 times_self [] = tt
 times_self (o ∷ os) =
-    (omega (arith, is_self o.id o refl), all_map (λ p. 1 ≤ times p.id os) (λ p. 1 ≤ times p.id (o ∷ os)) (λ p h. omega (arith, h)) os (times_self os))
+    (omega (arith, sums, is_self o.id o refl), all_map (λ p. 1 ≤ times p.id os) (λ p. 1 ≤ times p.id (o ∷ os)) (λ p h. omega (arith, sums, h)) os (times_self os))
 
 untouched : (os : List Obj) (s : Slot) (y : ℕ) → s.target ≡ Some y → touched os s ≡ false → Uncarried os s.holder s.index y
 untouched os s y e t =
@@ -279,9 +280,9 @@ module _ (M : Meaning) (law : Lawful M) (has : Remembers) (told-law : RemembersL
           arith,
           s.room,
           claims-total obj_size W f.objects,
-          total-++ obj_size (f.objects ++ train_objects cs) (objects ts),
-          total-++ obj_size f.objects (train_objects cs),
-          total-++ obj_size (train_objects cs) (objects ts),
+          sum_by-append obj_size (f.objects ++ train_objects cs) (objects ts),
+          sum_by-append obj_size f.objects (train_objects cs),
+          sum_by-append obj_size (train_objects cs) (objects ts),
         ))
         s.few sizes below (numbered_right (f ∷ []) (cars_in_row (cs ∷ ts)) rem.numbered))
 

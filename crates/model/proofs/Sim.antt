@@ -8,7 +8,7 @@ use Rattle.remembered.specs.Meaning.{Meaning as Remembers}
 use Rattle.model.specs.Calls.{Call, make, access, step, tally, Access, link, follow, drop, put, lift, get, words, same, full, refused, Answer, History, is_full}
 use Rattle.model.specs.Bodies.{Body, Roots, held, fresh, size, with_ref, with_value, is_root, Effect, leave, hold, point, store, Reply, object_of, reply_of, make_outcome}
 use Rattle.model.specs.Plain.{Graph, no_entries, alter_entry, with_effect, plain, graph_of, with_entry}
-use Rattle.model.specs.Trains.{Obj, Train, Trains, train_objects, objects, words_in_use, times, is, one_if, inside, alter, alter_object, arrival, numbers, lowest_free, capacity}
+use Rattle.model.specs.Trains.{Obj, Train, Trains, train_objects, objects, words_in_use, times, inside, alter, alter_object, arrival, numbers, lowest_free, capacity}
 use Rattle.model.specs.Claims.{Wish}
 use Rattle.model.specs.Step.{first_to, outside}
 use Rattle.model.specs.Space.{Model, opening, all_objects, made_by, has_room, space_with, step_by, step_on, act, space_of, Use}
@@ -18,6 +18,7 @@ use Rattle.model.specs.Sound.{Sound}
 use Rattle.model.proofs.Alls.{all_right, place_at_all, all_map}
 use Rattle.model.proofs.Alters.{objects-alter, alter_all}
 use Rattle.model.proofs.Keeps.{inside_body, step_all, sound_of}
+use Rattle.model.proofs.Totals.{is, one_if, sums}
 
 -- an object has inside what its slice_get has
 abbrev pub Twin : List Body → Obj → Type 0
@@ -35,7 +36,7 @@ inside-entry es (o ∷ os) x a h = go (inside-entry es os x a.1) (eqb x o.id) re
   where
     go : (1 ≤ times x os → inside os x ≡ slice_get es x) → (b : Bool) → eqb x o.id ≡ b → option_map (λ p. p.body) (cond b (Some o) (find (λ p. eqb x p.id) os)) ≡ slice_get es x
     go more true q = sym a.0 ∙ ap (slice_get es) (sym (eqb-true x o.id q))
-    go more false q = let z : is x o ≡ 0 = ap one_if q in more (omega (arith, h, z))
+    go more false q = let z : is x o ≡ 0 = ap one_if q in more (omega (arith, sums, h, z))
 
 -- a call's answer and effect depend only on what is found for the roots' objects
 module _ (find other : ℕ → Option Body) (rs : Roots) (agree : (r x : ℕ) → held rs r ≡ Some x → find x ≡ other x) where

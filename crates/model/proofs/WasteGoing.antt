@@ -1,11 +1,11 @@
 -- While the use goes on: each step brings the first train nearer to its end, and each end brings the waste one rank forward.
-use Rattle.std.proofs.Common.{◌≡◌, ℕ, zero, suc, pred, ◌+◌, ◌*◌, ◌≤◌, [], ◌∷◌, length, Some, None, Option, sym, refl, ap, subst, arith, not}
+use Rattle.std.proofs.Common.{◌≡◌, ℕ, zero, suc, pred, ◌+◌, ◌*◌, ◌≤◌, [], ◌∷◌, length, Some, None, Option, sym, refl, ap, subst, arith, not, sum_by, cond}
 use Rattle.std.specs.List.{AllByRecursion}
 use Rattle.layout.specs.Meaning.{Meaning}
 use Rattle.remembered.specs.Meaning.{Meaning as Remembers}
 use Rattle.model.specs.Calls.{Call, make, access, step, tally}
 use Rattle.model.specs.Bodies.{Body, Roots, fresh, is_root, with_ref, with_value, Effect, leave, hold, point, store, reply_of}
-use Rattle.model.specs.Trains.{Obj, Train, Trains, train_objects, objects, total, place_at, numbers, lowest_free, arrival, inside, alter}
+use Rattle.model.specs.Trains.{Obj, Train, Trains, train_objects, objects, place_at, numbers, lowest_free, arrival, inside, alter}
 use Rattle.model.specs.Claims.{Wish}
 use Rattle.model.specs.Step.{first_to, outside, place_all, trim, out_of, mark_after, guard}
 use Rattle.model.specs.Space.{Model, all_objects, carried, act, step_on, step_by, space_with, has_room, made_by}
@@ -43,7 +43,7 @@ no_mark G b mk e w q = absurd (let z : ◌≡◌ {A = ℕ} 0 1 = cc in omega ari
 
 -- trimmed or not
 settle : (G : ℕ → Type 0) (b n : ℕ) (mk : Option Wish) (ts : Trains) → Clean G b ts → CleanMark G b mk → suc (toil mk (first ts)) ≤ n
-    → (total one (train_objects (first ts)) ≡ 0 → mk ≡ None) → Went G b n mk (trim ts)
+    → (sum_by one (train_objects (first ts)) ≡ 0 → mk ≡ None) → Went G b n mk (trim ts)
 settle G b n mk [] c k f u = ends tt (u refl)
 settle G b n mk ([] ∷ ts) c k f u = ends (clean_tail G b [] ts c) (u refl)
 settle G b n mk ((d ∷ ds) ∷ ts) c k f u = stays c k (omega arith) f
@@ -160,7 +160,7 @@ module _ (G : ℕ → Type 0) (limit s : ℕ) where
     due = due_place g.rank (lowest_free (numbers m.trains)) (record { id = m.made; body = d }) m.mark m.trains z.few g.due;
   }
 
-  pub going_act : (M : Meaning) (has : Remembers) (c : Call) (m : Model) → Apart G m → Sound m → Sound (act M has c m).state → Going G limit s m → Going G limit (is_step c + s) (act M has c m).state
+  pub going_act : (M : Meaning) (has : Remembers) (c : Call) (m : Model) → Apart G m → Sound m → Sound (act M has c m).state → Going G limit s m → Going G limit (cond (is_step c) 1 0 + s) (act M has c m).state
   going_act M has (make r k a b) m p z z' g =
       let e : s ≡ 0 + s = omega arith in
       subst (λ (n : ℕ). Going G limit n (act M has (make r k a b) m).state) e

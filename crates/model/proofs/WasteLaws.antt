@@ -1,21 +1,21 @@
 -- The laws of waste.
-use Rattle.std.proofs.Common.{◌≡◌, ℕ, zero, suc, ◌+◌, ◌-◌, ◌*◌, ◌<◌, ◌≤◌, Bool, true, false, eqb, ◌⊎◌, List, [], ◌∷◌, ◌++◌, length, get_or, Some, Option, sym, refl, ap, subst, inl, inr, arith, cond}
+use Rattle.std.proofs.Common.{◌≡◌, ℕ, zero, suc, ◌+◌, ◌-◌, ◌*◌, ◌<◌, ◌≤◌, Bool, true, false, eqb, ◌⊎◌, List, [], ◌∷◌, ◌++◌, length, get_or, Some, Option, sym, refl, ap, subst, inl, inr, arith, cond, map}
 use lib.ListN.{get_or-eq_default}
 use Rattle.std.proofs.lemmas.Bool.{eq-eqb, eqb-true, or_from, cases_lt, cases_Bool, both_ways}
 use Rattle.std.specs.List.{AllByRecursion, range_with_len}
 use Rattle.std.specs.Prelude.{slice_get, option_map, find}
+use Rattle.std.proofs.lemmas.List.Sums.{sum_by-append, sum_by-cons}
 use Rattle.layout.specs.Meaning.{Meaning, Lawful}
 use Rattle.remembered.specs.Meaning.{Meaning as Remembers}
-use Rattle.model.specs.Calls.{History}
+use Rattle.model.specs.Calls.{History, Event}
 use Rattle.model.specs.Bodies.{Body, Roots, size}
 use Rattle.model.specs.Plain.{graph_of}
-use Rattle.model.specs.Trains.{Distinct, Obj, Train, Trains, train_objects, objects, words_of, one_of, times, is, one_if, inside}
+use Rattle.model.specs.Trains.{Distinct, Obj, Train, Trains, train_objects, objects, words_of, one_of, times, inside}
 use Rattle.model.specs.Space.{Model, all_objects, space_of, Use}
 use Rattle.model.specs.Reach.{by_root, by_ref, SpaceReaches, Unreachable}
-use Rattle.model.specs.Laws.{steps, train_steps, WasteUpTo, GoneAfter, WasteNearTheFrontLeavesSooner, WasteLeavesInCountedSteps, size_of, sizes, WordsInUseAreOfTheReachableAndTheNew}
-use Rattle.model.proofs.Totals.{total-++}
+use Rattle.model.specs.Laws.{steps, train_steps, WasteUpTo, GoneAfter, WasteNearTheFrontLeavesSooner, WasteLeavesInCountedSteps, size_of, sizes, WordsInUseAreOfTheReachableAndTheNew, is_step}
 use Rattle.model.specs.Sound.{SoundAt, Sound}
-use Rattle.model.proofs.Distinct.{sum_by, sum_within, one_of_head, one_of_left, one_of_right, in_numbered}
+use Rattle.model.proofs.Distinct.{sum_within, one_of_head, one_of_left, one_of_right, in_numbered}
 use Rattle.model.proofs.Keeps.{sound_of}
 use Rattle.model.proofs.Sim.{Twin, sim_of}
 use Rattle.model.proofs.WasteClaims.{Leads}
@@ -24,6 +24,7 @@ use Rattle.model.proofs.WasteProgress.{toil_high}
 use Rattle.model.proofs.WasteGoing.{GoingAt, Going, going_act, ended}
 use Rattle.model.proofs.Alls.{all_map}
 use Rattle.model.specs.Claims.{Wish}
+use Rattle.model.proofs.Totals.{is, one_if, sums}
 
 -- an object is found under its identity, if each identity is there once
 self : (o : Obj) → is o.id o ≡ 1
@@ -31,7 +32,7 @@ self o = ap one_if (eq-eqb o.id o.id refl)
 
 inside_lies : (os : List Obj) (x : ℕ) (b : Body) → inside os x ≡ Some b → 1 ≤ times x os
 inside_lies [] x b e = absurd (let z : ◌≡◌ {A = ℕ} 0 1 = cc in omega arith)
-inside_lies (o ∷ os) x b e = go (inside_lies os x b) (eqb x o.id) e
+inside_lies (o ∷ os) x b e = omega (arith, sums, go (inside_lies os x b) (eqb x o.id) e)
   where
     go : (inside os x ≡ Some b → 1 ≤ times x os) → (t : Bool) → option_map (λ p. p.body) (cond t (Some o) (find (λ p. eqb x p.id) os)) ≡ Some b → 1 ≤ one_if t + times x os
     go more true e = omega arith
@@ -42,16 +43,16 @@ inside_self [] h = tt
 inside_self (o ∷ os) h = (
   ap (λ (t : Bool). option_map (λ (p : Obj). p.body) (cond t (Some o) (find (λ (p : Obj). eqb o.id p.id) os))) (eq-eqb o.id o.id refl),
   all_map (λ p. inside os p.id ≡ Some p.body) (λ p. inside (o ∷ os) p.id ≡ Some p.body) (λ p e. go p e (eqb p.id o.id) refl) os
-      (inside_self os (λ x. omega (arith, h x))),
+      (inside_self os (λ x. omega (arith, sums, h x))),
 )
   where
     go : (p : Obj) → inside os p.id ≡ Some p.body → (t : Bool) → eqb p.id o.id ≡ t → option_map (λ q. q.body) (cond t (Some o) (find (λ q. eqb p.id q.id) os)) ≡ Some p.body
-    go p e true q = absurd (let z : is p.id o ≡ 1 = ap one_if q in omega (arith, z, h p.id, inside_lies os p.id p.body e))
+    go p e true q = absurd (let z : is p.id o ≡ 1 = ap one_if q in omega (arith, sums, z, h p.id, inside_lies os p.id p.body e))
     go p e false q = e
 
 each_lies : (os : List Obj) → AllByRecursion (λ o. 1 ≤ times o.id os) os
 each_lies [] = tt
-each_lies (o ∷ os) = (omega (arith, self o), all_map (λ p. 1 ≤ times p.id os) (λ p. 1 ≤ times p.id (o ∷ os)) (λ p e. omega (arith, e)) os (each_lies os))
+each_lies (o ∷ os) = (omega (arith, sums, self o), all_map (λ p. 1 ≤ times p.id os) (λ p. 1 ≤ times p.id (o ∷ os)) (λ p e. omega (arith, sums, e)) os (each_lies os))
 
 -- at the halt itself
 apart_start : (m : Model) → Sound m → Apart (Unreachable m) m
@@ -68,7 +69,7 @@ apart_start m s = record {
 
 lies_all : (Q : ℕ → Type 0) (os : List Obj) → ((x : ℕ) → 1 ≤ times x os → Q x) → AllByRecursion (λ o. Q o.id) os
 lies_all Q [] h = tt
-lies_all Q (o ∷ os) h = (h o.id (omega (arith, self o)), lies_all Q os (λ x l. h x (omega (arith, l))))
+lies_all Q (o ∷ os) h = (h o.id (omega (arith, sums, self o)), lies_all Q os (λ x l. h x (omega (arith, sums, l))))
 
 clean_start : (G : ℕ → Type 0) (b : ℕ) (ts : Trains) → ((k x : ℕ) → b ≤ k → 1 ≤ times x (train_objects (get_or ts k [])) → Not G x) → Clean G b ts
 clean_start G b [] h = tt
@@ -88,11 +89,11 @@ going_start G j made rs mk (t ∷ ts) s lies marked = record {
 
 clean_none : (G : ℕ → Type 0) (x : ℕ) → G x → (ts : Trains) → Clean G 0 ts → times x (objects ts) ≡ 0
 clean_none G x g [] h = refl
-clean_none G x g (t ∷ ts) h = omega (arith, total-++ (is x) (train_objects t) (objects ts), clean_none G x g ts h.1, none (train_objects t) h.0)
+clean_none G x g (t ∷ ts) h = omega (arith, sum_by-append (is x) (train_objects t) (objects ts), clean_none G x g ts h.1, none (train_objects t) h.0)
   where
     none : (os : List Obj) → AllByRecursion (λ o. Not G o.id) os → times x os ≡ 0
     none [] h = refl
-    none (o ∷ os) h = omega (arith, other (eqb x o.id) refl, none os h.1)
+    none (o ∷ os) h = omega (arith, sums, other (eqb x o.id) refl, none os h.1)
       where
         other : (b : Bool) → eqb x o.id ≡ b → one_if b ≡ 0
         other true e = absurd (h.0 (subst G (eqb-true x o.id e) g))
@@ -114,7 +115,8 @@ module _ (M : Meaning) (law : Lawful M) (has : Remembers) (h : History) (j : ℕ
       let r = on more in
       record {
         apart = apart_act G M has e.call n r.apart;
-        going = going_act G ((j + 1) * train_steps) (steps more) M has e.call n r.apart (sound_of M law has (more ++ h)) (sound_of M law has (e ∷ (more ++ h))) r.going;
+        going = subst (λ (s : ℕ). Going G ((j + 1) * train_steps) s (space_of M has (e ∷ (more ++ h)))) (sym (sum_by-cons (λ (d : Event). cond (is_step d.call) 1 0) e more))
+            (going_act G ((j + 1) * train_steps) (steps more) M has e.call n r.apart (sound_of M law has (more ++ h)) (sound_of M law has (e ∷ (more ++ h))) r.going);
       }
 
   gone : GoneAfter M has h ((j + 1) * train_steps)
@@ -140,32 +142,23 @@ waste_leaves M law has h u = gone M law has h (length (space_of M has h).trains)
 
 -- Words in use.
 abbrev identities : List Obj → List ℕ
-identities [] = []
-identities (o ∷ os) = o.id ∷ identities os
+identities os = map (λ o. o.id) os
 
 not_there : (x : ℕ) (os : List Obj) → times x os ≡ 0 → one_of x (identities os) ≡ false
 not_there x [] h = refl
-not_there x (o ∷ os) h = or_from (eqb x o.id) (one_of x (identities os)) (other (eqb x o.id) refl) (not_there x os (omega (arith, h)))
+not_there x (o ∷ os) h = or_from (eqb x o.id) (one_of x (identities os)) (other (eqb x o.id) refl) (not_there x os (omega (arith, sums, h)))
   where
     other : (b : Bool) → eqb x o.id ≡ b → b ≡ false
-    other true e = absurd (let z : is x o ≡ 1 = ap one_if e in omega (arith, z, h))
+    other true e = absurd (let z : is x o ≡ 1 = ap one_if e in omega (arith, sums, z, h))
     other false e = refl
 
 distinct : (os : List Obj) → ((x : ℕ) → times x os ≤ 1) → Distinct (identities os)
 distinct [] h = tt
-distinct (o ∷ os) h = (not_there o.id os (omega (arith, self o, h o.id)), distinct os (λ x. omega (arith, h x)))
-
-sizes_by : (es : List Body) (xs : List ℕ) → sum_by (λ x. size_of (slice_get es x)) xs ≡ sizes es xs
-sizes_by es [] = refl
-sizes_by es (x ∷ xs) = omega (arith, sizes_by es xs)
-
-sizes-++ : (es : List Body) (xs ys : List ℕ) → sizes es (xs ++ ys) ≡ sizes es xs + sizes es ys
-sizes-++ es [] ys = omega arith
-sizes-++ es (x ∷ xs) ys = omega (arith, sizes-++ es xs ys)
+distinct (o ∷ os) h = (not_there o.id os (omega (arith, sums, self o, h o.id)), distinct os (λ x. omega (arith, sums, h x)))
 
 words_by : (es : List Body) (os : List Obj) → AllByRecursion (Twin es) os → words_of os ≡ sizes es (identities os)
 words_by es [] t = refl
-words_by es (o ∷ os) t = let e : size_of (slice_get es o.id) ≡ size o.body = ap size_of t.0 in omega (arith, e, words_by es os t.1)
+words_by es (o ∷ os) t = let e : size_of (slice_get es o.id) ≡ size o.body = ap size_of t.0 in omega (arith, sums, e, words_by es os t.1)
 
 all_one_of : (os : List Obj) (ys : List ℕ) → AllByRecursion (λ o. one_of o.id ys ≡ true) os → (x : ℕ) → one_of x (identities os) ≡ true → one_of x ys ≡ true
 all_one_of [] ys h x e = absurd (both_ways false refl e)
@@ -181,9 +174,7 @@ words-within es os xs ys once twins known =
     omega (
       arith,
       words_by es os twins,
-      sizes_by es (identities os),
-      sizes_by es (xs ++ ys),
-      sizes-++ es xs ys,
+      sum_by-append (λ (x : ℕ). size_of (slice_get es x)) xs ys,
       sum_within (λ x. size_of (slice_get es x)) (identities os) (xs ++ ys) (distinct os once) (all_one_of os (xs ++ ys) known),
     )
 

@@ -1,5 +1,5 @@
 -- The laws over whole uses, for every layout and every remembered set.
-use Rattle.std.specs.Prelude.{◌≡◌, ℕ, ◌+◌, ◌-◌, ◌*◌, ◌<◌, ◌≤◌, true, false, List, [], ◌∷◌, ◌++◌, length, take, Some, None, Option, slice_index_or, slice_get}
+use Rattle.std.specs.Prelude.{◌≡◌, ℕ, ◌+◌, ◌-◌, ◌*◌, ◌<◌, ◌≤◌, true, false, List, [], ◌∷◌, ◌++◌, length, take, Some, None, Option, slice_index_or, slice_get, sum_by, count_by, option_map, unwrap_or, Bool}
 use Rattle.std.specs.List.{range_with_len}
 use Rattle.layout.specs.Meaning.{Meaning, Lawful}
 use Rattle.remembered.specs.Meaning.{Meaning as Remembers}
@@ -51,15 +51,14 @@ pub record AnswersAsTheGraph (M : Meaning) (has : Remembers) (h : History) : Typ
 abbrev pub AnswersAreThePlainGraphs : Type 0
 AnswersAreThePlainGraphs = (M : Meaning) → Lawful M → (has : Remembers) (h : History) → Use M has h → AnswersAsTheGraph M has h
 
-abbrev pub is_step : Call → ℕ
-is_step (make r k a b) = 0
-is_step (access c) = 0
-is_step step = 1
-is_step tally = 0
+abbrev pub is_step : Call → Bool
+is_step (make r k a b) = false
+is_step (access c) = false
+is_step step = true
+is_step tally = false
 
 abbrev pub steps : History → ℕ
-steps [] = 0
-steps (e ∷ h) = is_step e.call + steps h
+steps h = count_by (λ e. is_step e.call) h
 
 -- no first train lasts for more steps
 abbrev pub train_steps : ℕ
@@ -90,12 +89,10 @@ WasteLeavesInCountedSteps =
 
 -- the sizes of the objects of these identities
 abbrev pub size_of : Option Body → ℕ
-size_of None = 0
-size_of (Some b) = size b
+size_of b = unwrap_or (option_map size b) 0
 
 abbrev pub sizes : List Body → List ℕ → ℕ
-sizes es [] = 0
-sizes es (x ∷ xs) = size_of (slice_get es x) + sizes es xs
+sizes es xs = sum_by (λ x. size_of (slice_get es x)) xs
 
 -- from so many steps on the words in use are those of the reachable and the new at most: xs has at least what is reachable
 -- at the halt, and what was made after it has the identities from there on

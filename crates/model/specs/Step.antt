@@ -1,5 +1,5 @@
 -- A step: the first car of the first train is emptied and freed.
-use Rattle.std.specs.Prelude.{ℕ, zero, suc, ◌+◌, Bool, cond, List, [], ◌∷◌, ◌++◌, Some, None, Option, ◌==◌, map, find, option_to_list, if◌then◌else◌}
+use Rattle.std.specs.Prelude.{ℕ, zero, suc, List, [], ◌∷◌, ◌++◌, Some, None, Option, ◌==◌, map, find, option_to_list, if◌then◌else◌, count_by, not}
 use Rattle.model.specs.Bodies.{Roots}
 use Rattle.model.specs.Trains.{Obj, Car, Train, Trains, words_of, numbers, lowest_free, place_at, arrival, among}
 use Rattle.model.specs.Claims.{Wish, ref_wishes, train_wishes, trains_wishes, Claim}
@@ -31,16 +31,12 @@ trim [] = []
 trim ([] ∷ ts) = ts
 trim ((c ∷ cs) ∷ ts) = (c ∷ cs) ∷ ts
 
-abbrev pub is_zero : ℕ → Bool
-is_zero n = n == 0
-
+-- how many of the claimed objects leave the first train, and how many go back into it
 abbrev pub out_of : List Claim → ℕ
-out_of [] = 0
-out_of (c ∷ row) = cond (is_zero c.rank) 0 1 + out_of row
+out_of row = count_by (λ c. not (c.rank == 0)) row
 
 abbrev pub back_of : List Claim → ℕ
-back_of [] = 0
-back_of (c ∷ row) = cond (is_zero c.rank) 1 0 + back_of row
+back_of row = count_by (λ c. c.rank == 0) row
 
 abbrev pub claimed : List Claim → List Obj
 claimed row = map (λ c. c.object) row

@@ -1,5 +1,5 @@
 -- Objects in cars, cars in trains, trains in a row.
-use Rattle.std.specs.Prelude.{◌≡◌, ℕ, zero, suc, pred, ◌+◌, Bool, true, false, cond, ◌&&◌, List, [], ◌∷◌, ◌++◌, length, Option, ◌==◌, nat_le, nat_lt, flat_map, map, find, option_map, if◌then◌else◌}
+use Rattle.std.specs.Prelude.{◌≡◌, ℕ, zero, suc, pred, ◌+◌, Bool, false, cond, ◌&&◌, List, [], ◌∷◌, ◌++◌, length, Option, ◌==◌, nat_le, nat_lt, flat_map, map, find, option_map, if◌then◌else◌, sum_by, count_by}
 use Rattle.std.specs.List.{list_any, prefix_len, range_with_len}
 use Rattle.model.specs.Bodies.{Body, size}
 
@@ -37,23 +37,17 @@ train_objects t = flat_map (λ c. c.objects) t
 abbrev pub objects : Trains → List Obj
 objects ts = flat_map train_objects ts
 
--- a number of each object, added up
-abbrev pub total : (Obj → ℕ) → List Obj → ℕ
-total f [] = 0
-total f (o ∷ os) = f o + total f os
-
 abbrev pub obj_size : Obj → ℕ
 obj_size o = size o.body
 
 abbrev pub words_of : List Obj → ℕ
-words_of os = total obj_size os
+words_of os = sum_by obj_size os
 
 abbrev pub words_in_use : Trains → ℕ
 words_in_use ts = words_of (objects ts)
 
 abbrev pub cars_in_use : Trains → ℕ
-cars_in_use [] = 0
-cars_in_use (t ∷ ts) = length t + cars_in_use ts
+cars_in_use ts = sum_by length ts
 
 abbrev pub car_numbers : Train → List ℕ
 car_numbers t = map (λ c. c.number) t
@@ -107,16 +101,9 @@ arrival (t ∷ []) = 1
 arrival (t ∷ u ∷ ts) =
     let n = length (t ∷ u ∷ ts) in if nat_lt n most_trains && nat_le 4 (last_cars (t ∷ u ∷ ts)) then n else pred n
 
-abbrev pub one_if : Bool → ℕ
-one_if true = 1
-one_if false = 0
-
-abbrev pub is : ℕ → Obj → ℕ
-is x o = one_if (x == o.id)
-
 -- how many of the objects have the identity x
 abbrev pub times : ℕ → List Obj → ℕ
-times x os = total (is x) os
+times x os = count_by (λ o. x == o.id) os
 
 abbrev pub among : ℕ → List Obj → Bool
 among x os = nat_lt 0 (times x os)
