@@ -6,7 +6,7 @@ use Rattle.std.specs.List.{AllByRecursion}
 use Rattle.std.proofs.lemmas.List.Sums.{sum_by-append}
 use Rattle.layout.specs.Meaning.{Meaning, Lawful}
 use Rattle.model.specs.Bodies.{fresh, size}
-use Rattle.model.specs.Trains.{Obj, Car, Train, Trains, train_objects, objects, obj_size, words_of, words_in_use, cars_in_use, car_numbers, numbers, place, place_at, fits, with_object, opened, lowest_free, last_cars, arrival, most_trains, car_words}
+use Rattle.model.specs.Trains.{Obj, Car, Train, Trains, train_objects, obj_size, words_of, words_in_use, cars_in_use, car_numbers, numbers, place, place_at, fits, with_object, opened, lowest_free, last_cars, arrival, most_trains, car_words}
 use Rattle.model.specs.Claims.{Wish, Claim, claims, Taken}
 use Rattle.model.specs.Step.{claimed, copied_of, place_all, trim}
 use Rattle.model.specs.Space.{Model, carried}
@@ -142,11 +142,11 @@ arrival_below (t ∷ u ∷ ts) l = go (ltb (length (t ∷ u ∷ ts)) most_trains
 train_by_words : (t : Train) → Filled t → 65 * length t ≤ words_of (train_objects t) + 65
 train_by_words [] p = omega arith
 train_by_words (c ∷ []) p = omega arith
-train_by_words (c ∷ d ∷ cs) p = omega (arith, p.0, sum_by-append obj_size c.objects (train_objects (d ∷ cs)), train_by_words (d ∷ cs) p.2)
+train_by_words (c ∷ d ∷ cs) p = omega (arith, sums, p.0, train_by_words (d ∷ cs) p.2)
 
 pub cars_by_words : (ts : Trains) → AllByRecursion Filled ts → 65 * cars_in_use ts ≤ words_in_use ts + 65 * length ts
 cars_by_words [] p = omega arith
-cars_by_words (t ∷ ts) p = omega (arith, sums, sum_by-append obj_size (train_objects t) (objects ts), train_by_words t p.0, cars_by_words ts p.1)
+cars_by_words (t ∷ ts) p = omega (arith, sums, train_by_words t p.0, cars_by_words ts p.1)
 
 pub few_cars : (ts : Trains) → AllByRecursion Filled ts → words_in_use ts ≤ 3072 → length ts ≤ 8 → cars_in_use ts ≤ 55
 few_cars ts p w l = omega (arith, cars_by_words ts p)
@@ -182,13 +182,7 @@ pub few_placed : (busy : List ℕ) (row : List Claim) (f : Car) (cs : Train) (ts
 few_placed busy row f cs ts p w l s r u =
     few_cars (place_all busy row (cs ∷ ts))
     (filled_place_all busy row (cs ∷ ts) s (filled_tail f cs p.0, p.1))
-    (omega (
-      arith,
-      place_all-total obj_size busy row (cs ∷ ts),
-      sum_by-append obj_size (f.objects ++ train_objects cs) (objects ts),
-      sum_by-append obj_size f.objects (train_objects cs),
-      sum_by-append obj_size (train_objects cs) (objects ts),
-    ))
+    (omega (arith, sums, place_all-total obj_size busy row (cs ∷ ts)))
     (length-place_all busy row (cs ∷ ts) r l).1
 
 pub free_at_moment : (f : Car) (cs : Train) (ts : Trains) (m : Model)

@@ -199,15 +199,7 @@ pub step_total : (w : Obj → ℕ) (f : Car) (cs : Train) (ts : Trains) (m : Mod
 step_total w f cs ts m =
     let c = carried f cs ts m in
     let R = place_all (f.number ∷ []) c.taken (cs ∷ ts) in
-    omega (
-      arith,
-      ap (sum_by w) (trim-objects R),
-      place_all-total w (f.number ∷ []) c.taken (cs ∷ ts),
-      claims-total w (wishes m.roots m.mark f cs ts) f.objects,
-      sum_by-append w (f.objects ++ train_objects cs) (objects ts),
-      sum_by-append w f.objects (train_objects cs),
-      sum_by-append w (train_objects cs) (objects ts),
-    )
+    omega (arith, sums, ap (sum_by w) (trim-objects R), place_all-total w (f.number ∷ []) c.taken (cs ∷ ts), claims-total w (wishes m.roots m.mark f cs ts) f.objects)
 
 -- what holds of each object before holds of each after
 pub step_all : (P : Obj → Type 0) (f : Car) (cs : Train) (ts : Trains) (m : Model) → AllByRecursion P (objects ((f ∷ cs) ∷ ts)) → AllByRecursion P (objects (trains_after f cs ts m))
@@ -269,7 +261,7 @@ module _ (f : Car) (cs : Train) (ts : Trains) (m : Model) (s : SoundAt m.made m.
       let c = carried f cs ts m in
       let R = place_all (f.number ∷ []) c.taken (cs ∷ ts) in
       let below = claims_below (wishes m.roots m.mark f cs ts) f.objects (wishes_below m.roots m.mark f cs ts s.few s.mark) in
-      let g : 1 ≤ times x (first_objects R) = omega (arith, grows_place_all x (f.number ∷ []) c.taken (cs ∷ ts), sum_by-append (is x) f.objects (train_objects cs)) in
+      let g : 1 ≤ times x (first_objects R) = omega (arith, sums, grows_place_all x (f.number ∷ []) c.taken (cs ∷ ts)) in
       let t = trim-first x R g in
       (t.0, omega (arith, t.1, (length-place_all (f.number ∷ []) c.taken (cs ∷ ts) below s.few).0))
 

@@ -4,7 +4,6 @@ use lib.ListN.{length-replicate}
 use Rattle.std.proofs.lemmas.Bool.{eqb-false, ltb-false, or_parts}
 use Rattle.std.specs.List.{AllByRecursion}
 use Rattle.std.specs.Prelude.{map}
-use Rattle.std.proofs.lemmas.List.Sums.{sum_by-append}
 use Rattle.layout.specs.Meaning.{Meaning, Lawful}
 use Rattle.remembered.specs.Meaning.{Row, forget}
 use Rattle.remembered.specs.Meaning.{Meaning as Remembers, Lawful as RemembersLawfully}
@@ -276,14 +275,7 @@ module _ (M : Meaning) (law : Lawful M) (has : Remembers) (told-law : RemembersL
         let below = claims_below W f.objects (wishes_below m.roots m.mark f cs ts s.few s.mark) in
         subst Numbered (sym (row_trim R))
         (place_all-numbered f.number row (cs ∷ ts) (filled_tail f cs s.filled.0, s.filled.1)
-        (omega (
-          arith,
-          s.room,
-          claims-total obj_size W f.objects,
-          sum_by-append obj_size (f.objects ++ train_objects cs) (objects ts),
-          sum_by-append obj_size f.objects (train_objects cs),
-          sum_by-append obj_size (train_objects cs) (objects ts),
-        ))
+        (omega (arith, sums, s.room, claims-total obj_size W f.objects))
         s.few sizes below (numbered_right (f ∷ []) (cars_in_row (cs ∷ ts)) rem.numbered))
 
     after_noted : Noted M has (forget f.number ∷ m.told) (Uncarried (claimed (carried f cs ts m).taken)) (cars_in_row (trains_after f cs ts m))

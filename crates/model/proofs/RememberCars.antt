@@ -2,14 +2,13 @@
 use Rattle.std.proofs.Common.{◌≡◌, ℕ, zero, suc, ◌+◌, ◌*◌, ◌<◌, ◌≤◌, Bool, true, false, eqb, ◌⊎◌, List, [], ◌∷◌, ◌++◌, length, Some, None, Option, sym, refl, ap, ◌∙◌, subst, inl, inr, append_assoc, arith, cond}
 use Rattle.std.proofs.lemmas.Bool.{both_ways, cases_Bool, eqb-false, ltb-true, ltb-false, or_parts, or_from}
 use Rattle.std.specs.Prelude.{map}
-use Rattle.std.proofs.lemmas.List.Sums.{sum_by-append}
 use Rattle.layout.specs.Meaning.{Meaning}
 use Rattle.model.specs.Bodies.{Body}
 use Rattle.model.specs.Trains.{Distinct, Obj, Car, Train, Trains, train_objects, objects, times, among, car_numbers, numbers, one_of, fits, with_object, opened, place, place_at, alter_train, alter, car_words, alter_object}
 use Rattle.model.specs.Step.{trim}
 use Rattle.model.specs.Notes.{Seat, train_seat, seat, object_slots, train_slots, slots}
 use Rattle.model.proofs.Distinct.{one_of_here, one_of_there, one_of_head, one_of_apart, one_of_right}
-use Rattle.model.proofs.Totals.{is}
+use Rattle.model.proofs.Totals.{sums}
 
 -- the cars of all trains, one train after another
 abbrev pub cars_in_row : Trains → Train
@@ -178,8 +177,8 @@ module _ (y : ℕ) (d : Seat) where
     where
       go : (train_seat (n + 1) y t None ≡ Some d → 1 ≤ times y (train_objects t)) → (b : Bool) → among y c.objects ≡ b
           → ◌≡◌ {A = Option Seat} (cond b (Some (record { order = n; number = c.number })) (train_seat (n + 1) y t None)) (Some d) → 1 ≤ times y (train_objects (c ∷ t))
-      go more true a q = omega (arith, ltb-true 0 (times y c.objects) a, sum_by-append (is y) c.objects (train_objects t))
-      go more false a q = omega (arith, more q, sum_by-append (is y) c.objects (train_objects t))
+      go more true a q = omega (arith, sums, ltb-true 0 (times y c.objects) a)
+      go more false a q = omega (arith, sums, more q)
 
 pub seat_found : (n y : ℕ) (t : Train) → 1 ≤ times y (train_objects t) → (d : Seat) × (train_seat n y t None ≡ Some d)
 seat_found n y [] h = absurd (omega arith)
@@ -188,4 +187,4 @@ seat_found n y (c ∷ t) h = go (seat_found (n + 1) y t) (among y c.objects) ref
     go : (1 ≤ times y (train_objects t) → (d : Seat) × (train_seat (n + 1) y t None ≡ Some d)) → (b : Bool) → among y c.objects ≡ b
         → (d : Seat) × (◌≡◌ {A = Option Seat} (cond b (Some (record { order = n; number = c.number })) (train_seat (n + 1) y t None)) (Some d))
     go more true a = (record { order = n; number = c.number }, refl)
-    go more false a = more (omega (arith, ltb-false 0 (times y c.objects) a, sum_by-append (is y) c.objects (train_objects t)))
+    go more false a = more (omega (arith, sums, ltb-false 0 (times y c.objects) a))

@@ -3,7 +3,6 @@ use Rattle.std.proofs.Common.{◌≡◌, ℕ, zero, suc, ◌+◌, ◌*◌, ◌<�
 use Rattle.std.proofs.lemmas.Bool.{both_ways, eqb-true, eq-eqb, and_from, lt-ltb, ltb-true, cases_lt}
 use Rattle.std.specs.List.{AllByRecursion}
 use Rattle.std.specs.Prelude.{map}
-use Rattle.std.proofs.lemmas.List.Sums.{sum_by-append}
 use Rattle.layout.specs.Meaning.{Meaning}
 use Rattle.remembered.specs.Meaning.{Row}
 use Rattle.remembered.specs.Meaning.{Meaning as Remembers}
@@ -15,6 +14,7 @@ use Rattle.model.proofs.Alters.{alter-times, alter-size}
 use Rattle.model.proofs.Distinct.{one_of_here, one_of_there}
 use Rattle.model.proofs.RememberCars.{Placed, opens, joins, later, seat_order, seat_lies}
 use Rattle.model.proofs.Totals.{is, one_if}
+use Rattle.model.proofs.Totals.{sums}
 
 -- Q of each reference, by its address, its holder, its number and what it holds
 abbrev pub InRefs : Meaning → (ℕ → ℕ → ℕ → Option ℕ → Type 0) → Shape → (x a i : ℕ) → List (Option ℕ) → Type 0
@@ -186,7 +186,7 @@ module _ (M : Meaning) (has : Remembers) (r : Row) (E : ℕ → ℕ → ℕ → 
     cars_with M (ToldOf has r E c) (ToldOf has r E c) (ToldOf has r E (with_object o c))
         (λ a x i h u v y e l k. elim (cases_lt 0 (times y c.objects)) [
           | inl m ↦ u y e (omega (arith, m)) k
-          | inr m ↦ absurd (not-held x i y (omega (arith, m, l, sum_by-append (is y) c.objects (o ∷ []))) k)
+          | inr m ↦ absurd (not-held x i y (omega (arith, sums, m, l)) k)
         ]) t p.0 p.0,
     p.1,
   )
@@ -295,7 +295,7 @@ module _ (M : Meaning) (has : Remembers) (r : Row) (E : ℕ → ℕ → ℕ → 
       let rest = all_right (ToldSlot has r E n (c ∷ cs)) (object_slots M n (car_words * c.number) c.objects) (train_slots M (n + 1) cs) p in (
         slots_cars M (ToldOf has r E c) (n + 1) cs
             (all_with (ToldSlot has r E n (c ∷ cs)) (λ s. n + 1 ≤ s.order) (By (ToldOf has r E c)) here (train_slots M (n + 1) cs) rest (train_order M (n + 1) cs)),
-        slots_noted (n + 1) cs (λ y. omega (arith, once y, sum_by-append (is y) c.objects (train_objects cs)))
+        slots_noted (n + 1) cs (λ y. omega (arith, sums, once y))
             (all_with (ToldSlot has r E n (c ∷ cs)) (ToldSlot has r E n (c ∷ cs)) (ToldSlot has r E (n + 1) cs) there (train_slots M (n + 1) cs) rest rest),
       )
     where
@@ -313,5 +313,5 @@ module _ (M : Meaning) (has : Remembers) (r : Row) (E : ℕ → ℕ → ℕ → 
         where
           go : (b : Bool) → among y c.objects ≡ b → has r d.number s.address ≡ true
           go true a =
-              absurd (omega (arith, once y, ltb-true 0 (times y c.objects) a, seat_lies y d (n + 1) cs w, sum_by-append (is y) c.objects (train_objects cs)))
+              absurd (omega (arith, sums, once y, ltb-true 0 (times y c.objects) a, seat_lies y d (n + 1) cs w))
           go false a = u y d e (seat_there y a ∙ w) l k

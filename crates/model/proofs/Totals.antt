@@ -30,7 +30,7 @@ module _ (f : Obj → ℕ) where
       go false h = omega (arith, sums, h)
 
   then_total : (os : List Obj) (t : Taken Obj) → both (in_front os t) ≡ sum_by f os + both t
-  then_total os t = omega (arith, sum_by-append f os t.taken)
+  then_total os t = omega (arith, sums)
 
   pub visit-total : (rs : List (Option ℕ)) (left : List Obj) → both (visit rs left) ≡ sum_by f left
   visit-total [] left = omega arith
@@ -72,15 +72,15 @@ module _ (f : Obj → ℕ) where
   place-total n o (c ∷ []) = go (fits c o)
     where
       go : (b : Bool) → sum_by f (train_objects (cond b (with_object o c ∷ []) (c ∷ opened n o ∷ []))) ≡ sum_by f (train_objects (c ∷ [])) + f o
-      go true = omega (arith, sum_by-append f (c.objects ++ (o ∷ [])) [], sum_by-append f c.objects (o ∷ []), sum_by-append f c.objects [])
-      go false = omega (arith, sum_by-append f c.objects (o ∷ []), sum_by-append f c.objects [])
+      go true = omega (arith, sums)
+      go false = omega (arith, sums)
   place-total n o (c ∷ d ∷ cs) =
-      omega (arith, sum_by-append f c.objects (train_objects (place n o (d ∷ cs))), sum_by-append f c.objects (train_objects (d ∷ cs)), place-total n o (d ∷ cs))
+      omega (arith, sums, place-total n o (d ∷ cs))
 
   pub place_at-total : (k n : ℕ) (o : Obj) (ts : Trains) → sum_by f (objects (place_at k n o ts)) ≡ sum_by f (objects ts) + f o
   place_at-total k n o [] = omega arith
-  place_at-total zero n o (t ∷ ts) = omega (arith, sum_by-append f (train_objects (place n o t)) (objects ts), sum_by-append f (train_objects t) (objects ts), place-total n o t)
-  place_at-total (suc k) n o (t ∷ ts) = omega (arith, sum_by-append f (train_objects t) (objects (place_at k n o ts)), sum_by-append f (train_objects t) (objects ts), place_at-total k n o ts)
+  place_at-total zero n o (t ∷ ts) = omega (arith, sums, place-total n o t)
+  place_at-total (suc k) n o (t ∷ ts) = omega (arith, sums, place_at-total k n o ts)
 
   pub place_all-total : (busy : List ℕ) (row : List Claim) (ts : Trains) → sum_by f (objects (place_all busy row ts)) ≡ sum_by f (objects ts) + sum_by f (claimed row)
   place_all-total busy [] ts = omega arith

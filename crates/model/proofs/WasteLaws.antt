@@ -4,7 +4,7 @@ use lib.ListN.{get_or-eq_default}
 use Rattle.std.proofs.lemmas.Bool.{eq-eqb, eqb-true, or_from, cases_lt, cases_Bool, both_ways}
 use Rattle.std.specs.List.{AllByRecursion, range_with_len}
 use Rattle.std.specs.Prelude.{slice_get, option_map, find}
-use Rattle.std.proofs.lemmas.List.Sums.{sum_by-append, sum_by-cons}
+use Rattle.std.proofs.lemmas.List.Sums.{sum_by-cons}
 use Rattle.layout.specs.Meaning.{Meaning, Lawful}
 use Rattle.remembered.specs.Meaning.{Meaning as Remembers}
 use Rattle.model.specs.Calls.{History, Event}
@@ -89,7 +89,7 @@ going_start G j made rs mk (t ∷ ts) s lies marked = record {
 
 clean_none : (G : ℕ → Type 0) (x : ℕ) → G x → (ts : Trains) → Clean G 0 ts → times x (objects ts) ≡ 0
 clean_none G x g [] h = refl
-clean_none G x g (t ∷ ts) h = omega (arith, sum_by-append (is x) (train_objects t) (objects ts), clean_none G x g ts h.1, none (train_objects t) h.0)
+clean_none G x g (t ∷ ts) h = omega (arith, sums, clean_none G x g ts h.1, none (train_objects t) h.0)
   where
     none : (os : List Obj) → AllByRecursion (λ o. Not G o.id) os → times x os ≡ 0
     none [] h = refl
@@ -171,12 +171,7 @@ all_one_of (o ∷ os) ys h x e =
 words-within : (es : List Body) (os : List Obj) (xs ys : List ℕ) → ((x : ℕ) → times x os ≤ 1) → AllByRecursion (Twin es) os → AllByRecursion (λ o. one_of o.id (xs ++ ys) ≡ true) os
     → words_of os ≤ sizes es xs + sizes es ys
 words-within es os xs ys once twins known =
-    omega (
-      arith,
-      words_by es os twins,
-      sum_by-append (λ (x : ℕ). size_of (slice_get es x)) xs ys,
-      sum_within (λ x. size_of (slice_get es x)) (identities os) (xs ++ ys) (distinct os once) (all_one_of os (xs ++ ys) known),
-    )
+    omega (arith, sums, words_by es os twins, sum_within (λ x. size_of (slice_get es x)) (identities os) (xs ++ ys) (distinct os once) (all_one_of os (xs ++ ys) known))
 
 -- each object in a car was reachable at the halt or is new
 known_all : (m n : Model) (xs : List ℕ) → ((x : ℕ) → SpaceReaches m x → one_of x xs ≡ true) → ((x : ℕ) → Unreachable m x → times x (all_objects n) ≡ 0)

@@ -3,9 +3,8 @@ use Rattle.std.proofs.Common.{◌==◌, ◌≡◌, ℕ, zero, suc, ◌+◌, ◌*
 use Rattle.std.proofs.lemmas.Bool.{lt-ltb, ltb-true, ltb-false, ne_eqb, cases_lt}
 use Rattle.std.specs.List.{AllByRecursion}
 use Rattle.std.specs.Prelude.{map}
-use Rattle.std.proofs.lemmas.List.Sums.{sum_by-append}
 use Rattle.model.specs.Bodies.{Body, Roots}
-use Rattle.model.specs.Trains.{Obj, Car, Train, Trains, train_objects, objects, words_of, obj_size, place, place_at, fits, with_object, opened, numbers, lowest_free, times, among, alter_train, alter_object}
+use Rattle.model.specs.Trains.{Obj, Car, Train, Trains, train_objects, objects, words_of, place, place_at, fits, with_object, opened, numbers, lowest_free, times, among, alter_train, alter_object}
 use Rattle.model.specs.Claims.{Wish, Claim}
 use Rattle.model.specs.Step.{first_to, outside, wishes, place_all, out_of, back_of, claimed, mark_after, guard}
 use Rattle.model.specs.Space.{Model, carried}
@@ -47,8 +46,8 @@ spot_short x (c ∷ cs) = go (spot_short x cs) (among x c.objects)
 
 filled_long : (t : Train) → Filled t → 65 * length t ≤ words_of (train_objects t) + 64
 filled_long [] h = omega arith
-filled_long (c ∷ []) h = omega (arith, sum_by-append obj_size c.objects [], h.0)
-filled_long (c ∷ d ∷ cs) h = omega (arith, sum_by-append obj_size c.objects (train_objects (d ∷ cs)), filled_long (d ∷ cs) h.2, h.0)
+filled_long (c ∷ []) h = omega (arith, sums, h.0)
+filled_long (c ∷ d ∷ cs) h = omega (arith, sums, filled_long (d ∷ cs) h.2, h.0)
 
 sized_two : (os : List Obj) → AllByRecursion Sized os → 2 * sum_by one os ≤ words_of os
 sized_two [] h = omega arith
@@ -60,10 +59,10 @@ words_some (o ∷ os) h = omega (arith, sums)
 
 filled_some : (t : Train) → 1 ≤ length t → Filled t → 1 ≤ sum_by one (train_objects t)
 filled_some [] l h = absurd (omega (arith, l))
-filled_some (c ∷ []) l h = omega (arith, sum_by-append one c.objects [], words_some c.objects h.0)
+filled_some (c ∷ []) l h = omega (arith, sums, words_some c.objects h.0)
 filled_some (c ∷ d ∷ cs) l h =
     let w : 1 ≤ words_of c.objects = omega (arith, h.0) in
-    omega (arith, sum_by-append one c.objects (train_objects (d ∷ cs)), words_some c.objects w)
+    omega (arith, sums, words_some c.objects w)
 
 mark_spot_few : (mk : Option Wish) (t : Train) → length t ≤ 63 → mark_spot mk t ≤ 64
 mark_spot_few None t h = omega arith
@@ -71,20 +70,14 @@ mark_spot_few (Some w) t h = omega (arith, spot_short w.who t)
 
 module _ (made : ℕ) (rs : Roots) (t : Train) (ts : Trains) (mk : Option Wish) (s : SoundAt made rs (t ∷ ts) mk) where
   pub short : length t ≤ 63
-  short = omega (arith, filled_long t s.filled.0, s.room, sum_by-append obj_size (train_objects t) (objects ts))
+  short = omega (arith, sums, filled_long t s.filled.0, s.room)
 
   pub toil_low : 65 ≤ toil mk t
   toil_low = omega (arith, filled_some t s.standing.0 s.filled.0)
 
   pub toil_high : toil mk t ≤ 99904
   toil_high =
-      omega (
-        arith,
-        sized_two (train_objects t) (all_left Sized (train_objects t) (objects ts) s.sized),
-        s.room,
-        sum_by-append obj_size (train_objects t) (objects ts),
-        mark_spot_few mk t short,
-      )
+      omega (arith, sums, sized_two (train_objects t) (all_left Sized (train_objects t) (objects ts) s.sized), s.room, mark_spot_few mk t short)
 
 -- a car that has the object
 among_some : (x : ℕ) (os : List Obj) → 1 ≤ times x os → among x os ≡ true
@@ -101,11 +94,11 @@ spot-place x n o [] h = absurd (omega (arith, h))
 spot-place x n o (c ∷ []) h = go (fits c o)
   where
     here : 1 ≤ times x c.objects
-    here = omega (arith, sum_by-append (is x) c.objects [], h)
+    here = omega (arith, sums, h)
 
     go : (b : Bool) → spot x (cond b (with_object o c ∷ []) (c ∷ opened n o ∷ [])) ≤ spot x (c ∷ [])
     go true =
-        let more : 1 ≤ times x (c.objects ++ (o ∷ [])) = omega (arith, sum_by-append (is x) c.objects (o ∷ []), here) in
+        let more : 1 ≤ times x (c.objects ++ (o ∷ [])) = omega (arith, sums, here) in
         omega (arith, spot_here x (with_object o c) [] more)
     go false = omega (arith, spot_here x c (opened n o ∷ []) here)
 spot-place x n o (c ∷ d ∷ cs) h = go (spot-place x n o (d ∷ cs)) (among x c.objects) refl
@@ -114,7 +107,7 @@ spot-place x n o (c ∷ d ∷ cs) h = go (spot-place x n o (d ∷ cs)) (among x 
         → cond b 0 (suc (spot x (place n o (d ∷ cs)))) ≤ cond b 0 (suc (spot x (d ∷ cs)))
     go more true e = omega arith
     go more false e =
-        let rest : 1 ≤ times x (train_objects (d ∷ cs)) = omega (arith, h, among_none x c.objects e, sum_by-append (is x) c.objects (train_objects (d ∷ cs))) in
+        let rest : 1 ≤ times x (train_objects (d ∷ cs)) = omega (arith, sums, h, among_none x c.objects e) in
         omega (arith, more rest)
 
 -- the first train while the claims are placed: it grows by those that go back
@@ -169,7 +162,7 @@ module _ (f : Car) (cs : Train) (ts : Trains) (m : Model) (s : SoundAt m.made m.
 
   car_count-is : sum_by one (train_objects (f ∷ cs)) ≡ sum_by one (train_objects cs) + (back_of (carried f cs ts m).taken + (out_of (carried f cs ts m).taken + sum_by one (carried f cs ts m).left))
   car_count-is =
-      omega (arith, sum_by-append one f.objects (train_objects cs), claims-total one (wishes m.roots m.mark f cs ts) f.objects, out_back (carried f cs ts m).taken)
+      omega (arith, sums, claims-total one (wishes m.roots m.mark f cs ts) f.objects, out_back (carried f cs ts m).taken)
 
   module _ (t : Train) (few : length t ≤ 63) (count : sum_by one (train_objects t) ≡ sum_by one (train_objects cs) + back_of (carried f cs ts m).taken)
       (spots : (x : ℕ) → 1 ≤ times x (train_objects cs) → spot x t ≤ spot x cs) where
@@ -184,7 +177,7 @@ module _ (f : Car) (cs : Train) (ts : Trains) (m : Model) (s : SoundAt m.made m.
             → suc (mark_spot (guard (cond b None (Some u)) (out_of (carried f cs ts m).taken) w) t) ≤ cond b 0 (suc (spot u.who cs))
         go true q = absurd (omega (arith, z, mark_leaves u e (ltb-true 0 (times u.who f.objects) q)))
         go false q =
-            let there : 1 ≤ times u.who (train_objects cs) = omega (arith, (s.mark u e).lies, among_none u.who f.objects q, sum_by-append (is u.who) f.objects (train_objects cs)) in
+            let there : 1 ≤ times u.who (train_objects cs) = omega (arith, sums, (s.mark u e).lies, among_none u.who f.objects q) in
             omega (arith, spots u.who there)
 
     pub falls : suc (toil (guard (mark_after f.objects m.mark) (out_of (carried f cs ts m).taken) w) t) ≤ toil m.mark (f ∷ cs)
@@ -198,7 +191,7 @@ module _ (f : Car) (cs : Train) (ts : Trains) (m : Model) (s : SoundAt m.made m.
   unmarked z = go m.mark refl
     where
       in_car : (x : ℕ) → 1 ≤ times x (train_objects (f ∷ cs)) → 1 ≤ times x f.objects
-      in_car x h = omega (arith, h, z, times_few x (train_objects cs), sum_by-append (is x) f.objects (train_objects cs))
+      in_car x h = omega (arith, sums, h, z, times_few x (train_objects cs))
 
       go : (mk : Option Wish) → m.mark ≡ mk → guard (mark_after f.objects mk) (out_of (carried f cs ts m).taken) w ≡ None
       go None e =
@@ -218,7 +211,7 @@ module _ (y : ℕ) (g : Body → Body) where
   pub count-alter : (t : Train) → sum_by one (train_objects (alter_train y g t)) ≡ sum_by one (train_objects t)
   count-alter [] = refl
   count-alter (c ∷ cs) =
-      omega (arith, sum_by-append one (map (alter_object y g) c.objects) (train_objects (alter_train y g cs)), sum_by-append one c.objects (train_objects cs), count-objects c.objects, count-alter cs)
+      omega (arith, sums, count-objects c.objects, count-alter cs)
 
   pub spot-alter : (x : ℕ) (t : Train) → spot x (alter_train y g t) ≡ spot x t
   spot-alter x [] = refl
