@@ -120,10 +120,10 @@ module _ (M : Meaning) (law : Lawful M) (has : Remembers) (h : History) (j : ℕ
       }
 
   gone : GoneAfter M has h ((j + 1) * train_steps)
-  gone more u many x g =
+  gone more on_use x g =
       let G = Unreachable (space_of M has h) in
       let n = space_of M has (more ++ h) in
-      clean_none G x g n.trains (ended G ((j + 1) * train_steps) (steps more) n.made n.roots n.mark n.trains (sound_of M law has (more ++ h)) many (on more).going)
+      clean_none G x g n.trains (ended G ((j + 1) * train_steps) (steps more) n.made n.roots n.mark n.trains (sound_of M law has (more ++ h)) on_use.many (on more).going)
 
 pub waste_near_the_front : WasteNearTheFrontLeavesSooner
 waste_near_the_front M law has h u j waste = gone M law has h j waste
@@ -188,12 +188,12 @@ known_all m n xs reach gone (o ∷ os) old lies = (known (cases_lt o.id m.made),
     known (inr g) = one_of_right o.id xs (range_with_len m.made (n.made - m.made)) (in_numbered o.id m.made (n.made - m.made) g (omega (arith, old.0, g)))
 
 pub words_of_the_reachable_and_the_new : WordsInUseAreOfTheReachableAndTheNew
-words_of_the_reachable_and_the_new M law has h more u many xs reach =
+words_of_the_reachable_and_the_new M law has h more on_use xs reach =
     let m = space_of M has h in
     let n = space_of M has (more ++ h) in
     let s = sound_of M law has (more ++ h) in
-    words-within (graph_of M (more ++ h)).entries (all_objects n) xs (range_with_len m.made (n.made - m.made)) s.once (sim_of M law has (more ++ h) u).twins
-    (known_all m n xs reach (λ x g. waste_leaves M law has h (first_use more u) more u many x g) (all_objects n) s.old (each_lies (all_objects n)))
+    words-within (graph_of M (more ++ h)).entries (all_objects n) xs (range_with_len m.made (n.made - m.made)) s.once (sim_of M law has (more ++ h) on_use.use_after).twins
+    (known_all m n xs reach (λ x g. waste_leaves M law has h (first_use more on_use.use_after) more on_use x g) (all_objects n) s.old (each_lies (all_objects n)))
   where
     first_use : (more : History) → Use M has (more ++ h) → Use M has h
     first_use [] u = u

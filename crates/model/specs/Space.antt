@@ -3,7 +3,7 @@ use Rattle.std.specs.Prelude.{◌≡◌, ℕ, suc, ◌+◌, Bool, List, [], ◌�
 use Rattle.layout.specs.Meaning.{Meaning}
 use Rattle.remembered.specs.Meaning.{Row, forget, pairs_of}
 use Rattle.remembered.specs.Meaning.{Meaning as Remembers}
-use Rattle.model.specs.Calls.{Call, make, access, step, tally, usage, report, idle, train, car, Report, History}
+use Rattle.model.specs.Calls.{Call, make, access, step, tally, usage, report, idle, train, car, Report, History, AtEach}
 use Rattle.model.specs.Bodies.{Body, Roots, fresh, size, with_ref, with_value, root_count, is_root, Effect, leave, hold, point, store, reply_of, Outcome, outcome, make_outcome}
 use Rattle.model.specs.Trains.{Obj, Car, Train, Trains, train_objects, objects, words_in_use, cars_in_use, car_numbers, numbers, lowest_free, place_at, arrival, inside, alter, capacity}
 use Rattle.model.specs.Claims.{Wish, claims, Taken, Claim}
@@ -122,5 +122,4 @@ space_of M has (e ∷ h) = (act M has e.call (space_of M has h)).state
 
 -- a history is a use if each answer is the one that the space gives
 abbrev pub Use : Meaning → Remembers → History → Type 0
-Use M has [] = Unit {0}
-Use M has (e ∷ h) = (e.answer ≡ (act M has e.call (space_of M has h)).answer) × Use M has h
+Use M has history = AtEach (λ e h. e.answer ≡ (act M has e.call (space_of M has h)).answer) history
