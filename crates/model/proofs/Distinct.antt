@@ -1,11 +1,38 @@
 -- Lists of numbers, each there once, and the lowest number that is not in a list.
 use Rattle.std.proofs.Common.{◌≡◌, ℕ, zero, suc, ◌+◌, ◌<◌, ◌≤◌, Bool, true, false, ◌||◌, eqb, ◌⊎◌, List, [], ◌∷◌, ◌++◌, length, sym, refl, ap, ◌∙◌, subst, inl, inr, arith, cond, get_or, sum_by}
-use Rattle.std.proofs.lemmas.Bool.{both_ways, eqb-true, eqb-false, eq-eqb, ne_eqb, or_cases, or_from, or_left, or_right, cases_lt}
-use Rattle.std.specs.List.{range_with_len, prefix_len}
+use Rattle.std.proofs.lemmas.Bool.{both_ways, eqb-true, eqb-false, eq-eqb, ne_eqb, or_cases, or_from, or_left, or_right, cases_lt, or_parts}
+use Rattle.std.specs.List.{range_with_len, prefix_len, AllByRecursion, IsDistinct}
 use Rattle.std.proofs.lemmas.List.Sums.{prefix_len_stops, prefix_len_passes, sum_by-cons}
 use Rattle.std.proofs.lemmas.List.FromFn.{length-range_with_len, get_or-range_with_len}
-use Rattle.model.specs.Trains.{one_of, Distinct, lowest_free}
+use Rattle.std.proofs.lemmas.Map.Keys.{IsDistinct-cons, IsDistinct-head, IsDistinct-tail}
+use Rattle.model.specs.Trains.{one_of, lowest_free}
 use Rattle.model.proofs.Totals.{sums}
+
+-- what holds of each number of a list holds of one of them
+pub all_at : (P : ℕ → Type 0) (z : ℕ) (ns : List ℕ) → AllByRecursion P ns → one_of z ns ≡ true → P z
+all_at P z [] p e = absurd (both_ways false refl e)
+all_at P z (n ∷ ns) p e = elim (or_cases (eqb z n) (one_of z ns) e) [
+  | inl q ↦ subst P (sym (eqb-true z n q)) p.0
+  | inr q ↦ all_at P z ns p.1 q
+]
+
+differs : (n : ℕ) (ns : List ℕ) → one_of n ns ≡ false → AllByRecursion (λ m. eqb n m ≡ false) ns
+differs n [] e = tt
+differs n (m ∷ ns) e = let k = or_parts (eqb n m) (one_of n ns) e in (k.0, differs n ns k.1)
+
+not_one_of : (n : ℕ) (ns : List ℕ) → AllByRecursion (λ m. eqb n m ≡ false) ns → one_of n ns ≡ false
+not_one_of n [] p = refl
+not_one_of n (m ∷ ns) p = or_from (eqb n m) (one_of n ns) p.0 (not_one_of n ns p.1)
+
+pub distinct_nil : IsDistinct eqb []
+unfolding IsDistinct
+distinct_nil = tt
+
+pub distinct_cons : (n : ℕ) (ns : List ℕ) → one_of n ns ≡ false → IsDistinct eqb ns → IsDistinct eqb (n ∷ ns)
+distinct_cons n ns e d = IsDistinct-cons eqb n ns (differs n ns e) d
+
+pub distinct_head : (n : ℕ) (ns : List ℕ) → IsDistinct eqb (n ∷ ns) → one_of n ns ≡ false
+distinct_head n ns d = not_one_of n ns (IsDistinct-head eqb n ns d)
 
 pub one_of_here : (x : ℕ) (xs : List ℕ) → one_of x (x ∷ xs) ≡ true
 one_of_here x xs = or_left (eqb x x) (one_of x xs) (eq-eqb x x refl)
@@ -70,11 +97,11 @@ one_of-without z x (y ∷ ys) n e = go (eqb x y) refl (one_of-without z x ys n)
           | inr q ↦ or_right (eqb z y) (one_of z (without x ys)) (more q)
         ]
 
-pub sum_within : (f : ℕ → ℕ) (xs ys : List ℕ) → Distinct xs → ((x : ℕ) → one_of x xs ≡ true → one_of x ys ≡ true) → sum_by f xs ≤ sum_by f ys
+pub sum_within : (f : ℕ → ℕ) (xs ys : List ℕ) → IsDistinct eqb xs → ((x : ℕ) → one_of x xs ≡ true → one_of x ys ≡ true) → sum_by f xs ≤ sum_by f ys
 sum_within f [] ys d h = omega arith
 sum_within f (x ∷ xs) ys d h =
-    let part = sum_within f xs (without x ys) d.1
-    (λ z e. one_of-without z x ys (one_of_apart z x xs e d.0) (h z (one_of_there z x xs e))) in
+    let part = sum_within f xs (without x ys) (IsDistinct-tail eqb x xs d)
+    (λ z e. one_of-without z x ys (one_of_apart z x xs e (distinct_head x xs d)) (h z (one_of_there z x xs e))) in
     omega (arith, sums, sum_without f x ys (h x (one_of_here x xs)), part)
 
 abbrev one : ℕ → ℕ
@@ -85,16 +112,16 @@ sum_one [] = refl
 sum_one (x ∷ xs) = omega (arith, sums, sum_one xs)
 
 -- distinct numbers of a list are no more than that list's
-pub length-within : (xs ys : List ℕ) → Distinct xs → ((x : ℕ) → one_of x xs ≡ true → one_of x ys ≡ true) → length xs ≤ length ys
+pub length-within : (xs ys : List ℕ) → IsDistinct eqb xs → ((x : ℕ) → one_of x xs ≡ true → one_of x ys ≡ true) → length xs ≤ length ys
 length-within xs ys d h = omega (arith, sum_one xs, sum_one ys, sum_within one xs ys d h)
 
 pub below_numbered : (x a n : ℕ) → x < a → one_of x (range_with_len a n) ≡ false
 below_numbered x a zero h = refl
 below_numbered x a (suc n) h = or_from (eqb x a) (one_of x (range_with_len (a + 1) n)) (ne_eqb x a (λ e. omega arith)) (below_numbered x (a + 1) n (omega arith))
 
-pub distinct_numbered : (a n : ℕ) → Distinct (range_with_len a n)
-distinct_numbered a zero = tt
-distinct_numbered a (suc n) = (below_numbered a (a + 1) n (omega arith), distinct_numbered (a + 1) n)
+pub distinct_numbered : (a n : ℕ) → IsDistinct eqb (range_with_len a n)
+distinct_numbered a zero = distinct_nil
+distinct_numbered a (suc n) = distinct_cons a (range_with_len (a + 1) n) (below_numbered a (a + 1) n (omega arith)) (distinct_numbered (a + 1) n)
 
 pub in_numbered : (x a n : ℕ) → a ≤ x → x < a + n → one_of x (range_with_len a n) ≡ true
 in_numbered x a zero p q = absurd (omega arith)

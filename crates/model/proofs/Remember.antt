@@ -2,14 +2,14 @@
 use Rattle.std.proofs.Common.{◌≡◌, ℕ, zero, suc, ◌+◌, ◌*◌, ◌<◌, ◌≤◌, Bool, true, false, cond, eqb, List, [], ◌∷◌, ◌++◌, length, get_or, replicate, Some, None, Option, sym, refl, ap, ◌∙◌, subst, arith, length-set, not}
 use lib.ListN.{length-replicate}
 use Rattle.std.proofs.lemmas.Bool.{eqb-false, ltb-false, or_parts}
-use Rattle.std.specs.List.{AllByRecursion}
+use Rattle.std.specs.List.{AllByRecursion, IsDistinct}
 use Rattle.std.specs.Prelude.{map}
 use Rattle.layout.specs.Meaning.{Meaning, Lawful}
 use Rattle.remembered.specs.Meaning.{Row, forget}
 use Rattle.remembered.specs.Meaning.{Meaning as Remembers, Lawful as RemembersLawfully}
 use Rattle.model.specs.Calls.{Call, make, access, step, tally, History}
 use Rattle.model.specs.Bodies.{Shape, Body, fresh, size, with_ref, with_value, is_root, Effect, leave, hold, point, store, reply_of}
-use Rattle.model.specs.Trains.{Distinct, Obj, Car, Train, Trains, train_objects, objects, words_of, words_in_use, obj_size, times, among, car_numbers, numbers, one_of, lowest_free, place_at, arrival, inside, alter, car_words}
+use Rattle.model.specs.Trains.{Obj, Car, Train, Trains, train_objects, objects, words_of, words_in_use, obj_size, times, among, car_numbers, numbers, one_of, lowest_free, place_at, arrival, inside, alter, car_words}
 use Rattle.model.specs.Claims.{Wish, Claim}
 use Rattle.model.specs.Step.{first_to, outside, wishes, claimed, place_all}
 use Rattle.model.specs.Notes.{Seat, seat, Slot, train_slots, slots, notes, target_among, touched, is_slot, tell}
@@ -18,7 +18,7 @@ use Rattle.model.specs.Remembered.{NoReferenceIsOverlooked}
 use Rattle.model.proofs.Totals.{claims-total, place_at-total, sums}
 use Rattle.model.specs.Sound.{Points, Sized, Filled, SoundAt, Sound}
 use Rattle.model.proofs.Alls.{all_left, all_right, claims_all, place_at_all, all_map, all_with}
-use Rattle.model.proofs.Distinct.{one_of_here, one_of_there, one_of_apart, lowest_unused}
+use Rattle.model.proofs.Distinct.{one_of_apart, lowest_unused, all_at, distinct_nil, distinct_head}
 use Rattle.model.proofs.Cars.{RanksBelow, filled_tail, filled_place_at, length-place_at, few_cars, length-numbers}
 use Rattle.model.proofs.Closure.{is_self}
 use Rattle.model.proofs.Alters.{ref_size, value_size, objects-alter, alter_all}
@@ -74,13 +74,13 @@ module _ (M : Meaning) (law : Lawful M) where
         objects_below (a + size o.body) os (omega (arith, sums, l)) p.1,
       )
 
-  cars_below : (t : Train) → Within t → ((z : ℕ) → one_of z (car_numbers t) ≡ true → z < 64) → AllByRecursion (λ o. Shaped M o.body) (train_objects t) → InCars M Below t
+  cars_below : (t : Train) → Within t → AllByRecursion (λ z. z < 64) (car_numbers t) → AllByRecursion (λ o. Shaped M o.body) (train_objects t) → InCars M Below t
   cars_below [] w k p = tt
   cars_below (c ∷ cs) w k p =
-      let n : c.number < 64 = k c.number (one_of_here c.number (car_numbers cs)) in
+      let n : c.number < 64 = k.0 in
       let l : words_of c.objects ≤ 128 = w.0 in (
         objects_below (car_words * c.number) c.objects (omega arith) (all_left _ c.objects (train_objects cs) p),
-        cars_below cs w.1 (λ z e. k z (one_of_there z c.number (car_numbers cs) e)) (all_right _ c.objects (train_objects cs) p),
+        cars_below cs w.1 k.1 (all_right _ c.objects (train_objects cs) p),
       )
 
   addresses_below : (ts : Trains) → AllByRecursion Filled ts → Numbered (cars_in_row ts) → AllByRecursion (λ o. Shaped M o.body) (objects ts)
@@ -98,7 +98,7 @@ join_told : (has : Remembers) (ts : Trains) (test : Slot → Bool) (q : Row) (E 
 join_told has ts test q E num out s u v y d e w l k = go (test s) refl
   where
     go : (b : Bool) → test s ≡ b → has q d.number s.address ≡ true
-    go true a = v.0 a y d e (row_seat 0 y ts ∙ w) l (num.0 d.number (seat-number y d 0 (cars_in_row ts) w)) v.1
+    go true a = v.0 a y d e (row_seat 0 y ts ∙ w) l (all_at (λ z. z < 64) d.number (car_numbers (cars_in_row ts)) num.0 (seat-number y d 0 (cars_in_row ts) w)) v.1
     go false a = u y d e w l (out s y e a)
 
 module _ (M : Meaning) (law : Lawful M) (has : Remembers) (told-law : RemembersLawfully has) where
@@ -186,7 +186,7 @@ alter_shaped M x g keeps ts p =
 
 alter-numbered : (x : ℕ) (g : Body → Body) (ts : Trains) → Numbered (cars_in_row ts) → Numbered (cars_in_row (alter x g ts))
 alter-numbered x g ts k =
-    subst (λ (ns : List ℕ). ((z : ℕ) → one_of z ns ≡ true → z < 64) × Distinct ns)
+    subst (λ (ns : List ℕ). AllByRecursion (λ z. z < 64) ns × IsDistinct eqb ns)
     (sym (ap car_numbers (row_alter x g ts) ∙ alter-numbers x g (cars_in_row ts))) k
 
 module _ (M : Meaning) (law : Lawful M) (has : Remembers) (told-law : RemembersLawfully has) where
@@ -287,7 +287,7 @@ module _ (M : Meaning) (law : Lawful M) (has : Remembers) (told-law : RemembersL
         let t = cars_in_row (cs ∷ ts) in
         let before = noted_with M has m.told q Always (Uncarried os) t rem.noted.1
         (cars_all M (λ a x i h. (y : ℕ) → h ≡ Some y → Uncarried os x i y → Always x i y) (λ a x i h y e u. tt) t)
-        (λ n a o u. told-law.keeps_others m.told f.number n a (eqb-false n f.number (one_of_apart n f.number (car_numbers t) o rem.numbered.1.0)) u) in
+        (λ n a o u. told-law.keeps_others m.told f.number n a (eqb-false n f.number (one_of_apart n f.number (car_numbers t) o (distinct_head f.number (car_numbers t) rem.numbered.1))) u) in
         subst (λ (v : Train). Noted M has q (Uncarried os) v) (sym (row_trim R)) (place_all_noted M has q os (f.number ∷ []) row (cs ∷ ts) (times_self os) before)
 
     car_remembers : ((y : ℕ) → times y (objects (trains_after f cs ts m)) ≤ 1) → AllByRecursion Filled (trains_after f cs ts m)
@@ -321,7 +321,7 @@ module _ (M : Meaning) (law : Lawful M) (has : Remembers) (told-law : RemembersL
   act_remembers tally m s z rem = rem
 
   pub remembering_of : (h : History) → Remembering M has (space_of M has h).trains (space_of M has h).told
-  remembering_of [] = record { numbered = ((λ z e. absurd (let k : ◌≡◌ {A = ℕ} 0 1 = cc in omega arith)), tt); shaped = tt; noted = tt }
+  remembering_of [] = record { numbered = (tt, distinct_nil); shaped = tt; noted = tt }
   remembering_of (e ∷ h) = act_remembers e.call (space_of M has h) (sound_of M law has h) (sound_of M law has (e ∷ h)) (remembering_of h)
 
 -- The law.
@@ -341,8 +341,8 @@ overlooked_law M law has told-law h =
     (all_map (Points (λ y. 1 ≤ times y (objects ts))) (λ o. (i b k : ℕ) → L b o.id k (get_or o.body.refs i None)) (λ o p i b k y e. found y (p i y e)) (objects ts) s.refs))) in
     let told = noted_slots M has m.told Always 0 t rem.noted in
     record {
-      below = λ n e. rem.numbered.0 n (subst (λ (ns : List ℕ). one_of n ns ≡ true) (sym (row_numbers ts)) e);
-      differ = subst Distinct (row_numbers ts) rem.numbered.1;
+      below = subst (AllByRecursion (λ n. n < 64)) (row_numbers ts) rem.numbered.0;
+      differ = subst (IsDistinct eqb) (row_numbers ts) rem.numbered.1;
       addresses = addresses_below M law ts s.filled rem.numbered rem.shaped;
       lies = subst (λ (ss : List Slot). AllByRecursion (By L) ss) (sym (row_slots M 0 ts)) lie;
       remembered = subst (λ (ss : List Slot). AllByRecursion (λ v. (y : ℕ) (c : Seat) → v.target ≡ Some y → seat 0 y ts ≡ Some c → c.order < v.order → has m.told c.number v.address ≡ true) ss) (sym (row_slots M 0 ts))

@@ -2,12 +2,14 @@
 use Rattle.std.proofs.Common.{◌≡◌, ℕ, zero, suc, ◌+◌, ◌*◌, ◌<◌, ◌≤◌, Bool, true, false, eqb, ◌⊎◌, List, [], ◌∷◌, ◌++◌, length, Some, None, Option, sym, refl, ap, ◌∙◌, subst, inl, inr, append_assoc, arith, cond}
 use Rattle.std.proofs.lemmas.Bool.{both_ways, cases_Bool, eqb-false, ltb-true, ltb-false, or_parts, or_from}
 use Rattle.std.specs.Prelude.{map}
+use Rattle.std.specs.List.{IsDistinct, AllByRecursion}
+use Rattle.std.proofs.lemmas.Map.Keys.{IsDistinct-tail}
 use Rattle.layout.specs.Meaning.{Meaning}
 use Rattle.model.specs.Bodies.{Body}
-use Rattle.model.specs.Trains.{Distinct, Obj, Car, Train, Trains, train_objects, objects, times, among, car_numbers, numbers, one_of, fits, with_object, opened, place, place_at, alter_train, alter, car_words, alter_object}
+use Rattle.model.specs.Trains.{Obj, Car, Train, Trains, train_objects, objects, times, among, car_numbers, numbers, one_of, fits, with_object, opened, place, place_at, alter_train, alter, car_words, alter_object}
 use Rattle.model.specs.Step.{trim}
 use Rattle.model.specs.Notes.{Seat, train_seat, seat, object_slots, train_slots, slots}
-use Rattle.model.proofs.Distinct.{one_of_here, one_of_there, one_of_head, one_of_apart, one_of_right}
+use Rattle.model.proofs.Distinct.{one_of_here, one_of_there, one_of_head, one_of_apart, one_of_right, distinct_cons, distinct_head}
 use Rattle.model.proofs.Totals.{sums}
 
 -- the cars of all trains, one train after another
@@ -110,39 +112,43 @@ module _ (n : ℕ) (o : Obj) where
         | inr p ↦ elim (placed_either q z p) [ inl k ↦ inl k | inr k ↦ inr (one_of_there z c.number (car_numbers t) k) ]
       ]
 
-  placed_distinct : {t u : Train} → Placed n o t u → one_of n (car_numbers t) ≡ false → Distinct (car_numbers t) → Distinct (car_numbers u)
-  placed_distinct (opens t) f d = (f, d)
+  placed_below : {t u : Train} → Placed n o t u → n < 64 → AllByRecursion (λ z. z < 64) (car_numbers t) → AllByRecursion (λ z. z < 64) (car_numbers u)
+  placed_below (opens t) h k = (h, k)
+  placed_below (joins c t) h k = k
+  placed_below (later c t u q) h k = (k.0, placed_below q h k.1)
+
+  placed_distinct : {t u : Train} → Placed n o t u → one_of n (car_numbers t) ≡ false → IsDistinct eqb (car_numbers t) → IsDistinct eqb (car_numbers u)
+  placed_distinct (opens t) f d = distinct_cons n (car_numbers t) f d
   placed_distinct (joins c t) f d = d
   placed_distinct (later c t u q) f d =
       let k = or_parts (eqb n c.number) (one_of n (car_numbers t)) f in
       let out : one_of c.number (car_numbers u) ≡ false = elim (cases_Bool (one_of c.number (car_numbers u))) [
         | inl p ↦ elim (placed_either q c.number p) [
           | inl e ↦ absurd (eqb-false n c.number k.0 (sym e))
-          | inr e ↦ absurd (both_ways (one_of c.number (car_numbers t)) d.0 e)
+          | inr e ↦ absurd (both_ways (one_of c.number (car_numbers t)) (distinct_head c.number (car_numbers t) d) e)
         ]
         | inr p ↦ p
       ] in
-      (out, placed_distinct q k.1 d.1)
+      distinct_cons c.number (car_numbers u) out (placed_distinct q k.1 (IsDistinct-tail eqb c.number (car_numbers t) d))
 
 -- numbers below 64, each there once
 abbrev pub Numbered : Train → Type 0
-Numbered t = ((z : ℕ) → one_of z (car_numbers t) ≡ true → z < 64) × Distinct (car_numbers t)
+Numbered t = AllByRecursion (λ z. z < 64) (car_numbers t) × IsDistinct eqb (car_numbers t)
 
 pub placed-numbered : (n : ℕ) (o : Obj) (t u : Train) → Placed n o t u → n < 64 → one_of n (car_numbers t) ≡ false → Numbered t → Numbered u
-placed-numbered n o t u q h f k =
-    ((λ z e. elim (placed_either n o q z e) [ inl p ↦ omega arith | inr p ↦ k.0 z p ]), placed_distinct n o q f k.1)
+placed-numbered n o t u q h f k = (placed_below n o q h k.0, placed_distinct n o q f k.1)
 
 pub numbered_right : (t u : Train) → Numbered (t ++ u) → Numbered u
 numbered_right [] u k = k
-numbered_right (c ∷ t) u k = numbered_right t u ((λ z e. k.0 z (one_of_there z c.number (car_numbers (t ++ u)) e)), k.1.1)
+numbered_right (c ∷ t) u k = numbered_right t u (k.0.1, IsDistinct-tail eqb c.number (car_numbers (t ++ u)) k.1)
 
 -- no car of the second part has a number of the first
 pub numbered_apart : (t u : Train) → Numbered (t ++ u) → (z : ℕ) → one_of z (car_numbers u) ≡ true → one_of z (car_numbers t) ≡ false
 numbered_apart [] u k z e = refl
 numbered_apart (c ∷ t) u k z e =
     let in_rest : one_of z (car_numbers (t ++ u)) ≡ true = subst (λ (ns : List ℕ). one_of z ns ≡ true) (sym (car_numbers-++ t u)) (one_of_right z (car_numbers t) (car_numbers u) e) in
-    or_from (eqb z c.number) (one_of z (car_numbers t)) (one_of_apart z c.number (car_numbers (t ++ u)) in_rest k.1.0)
-    (numbered_apart t u ((λ y p. k.0 y (one_of_there y c.number (car_numbers (t ++ u)) p)), k.1.1) z e)
+    or_from (eqb z c.number) (one_of z (car_numbers t)) (one_of_apart z c.number (car_numbers (t ++ u)) in_rest (distinct_head c.number (car_numbers (t ++ u)) k.1))
+    (numbered_apart t u (k.0.1, IsDistinct-tail eqb c.number (car_numbers (t ++ u)) k.1) z e)
 
 pub alter-numbers : (x : ℕ) (g : Body → Body) (t : Train) → car_numbers (alter_train x g t) ≡ car_numbers t
 alter-numbers x g [] = refl

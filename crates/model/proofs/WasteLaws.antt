@@ -2,7 +2,7 @@
 use Rattle.std.proofs.Common.{◌≡◌, ℕ, zero, suc, ◌+◌, ◌-◌, ◌*◌, ◌<◌, ◌≤◌, Bool, true, false, eqb, ◌⊎◌, List, [], ◌∷◌, ◌++◌, length, get_or, Some, Option, sym, refl, ap, subst, inl, inr, arith, cond, map}
 use lib.ListN.{get_or-eq_default}
 use Rattle.std.proofs.lemmas.Bool.{eq-eqb, eqb-true, or_from, cases_lt, cases_Bool, both_ways}
-use Rattle.std.specs.List.{AllByRecursion, range_with_len}
+use Rattle.std.specs.List.{AllByRecursion, range_with_len, IsDistinct}
 use Rattle.std.specs.Prelude.{slice_get, option_map, find}
 use Rattle.std.proofs.lemmas.List.Sums.{sum_by-cons}
 use Rattle.layout.specs.Meaning.{Meaning, Lawful}
@@ -10,12 +10,12 @@ use Rattle.remembered.specs.Meaning.{Meaning as Remembers}
 use Rattle.model.specs.Calls.{History, Event}
 use Rattle.model.specs.Bodies.{Body, Roots, size}
 use Rattle.model.specs.Plain.{graph_of}
-use Rattle.model.specs.Trains.{Distinct, Obj, Train, Trains, train_objects, objects, words_of, one_of, times, inside}
+use Rattle.model.specs.Trains.{Obj, Train, Trains, train_objects, objects, words_of, one_of, times, inside}
 use Rattle.model.specs.Space.{Model, all_objects, space_of, Use}
 use Rattle.model.specs.Reach.{by_root, by_ref, SpaceReaches, Unreachable}
 use Rattle.model.specs.Laws.{steps, train_steps, WasteUpTo, GoneAfter, WasteNearTheFrontLeavesSooner, WasteLeavesInCountedSteps, size_of, sizes, WordsInUseAreOfTheReachableAndTheNew, is_step}
 use Rattle.model.specs.Sound.{SoundAt, Sound}
-use Rattle.model.proofs.Distinct.{sum_within, one_of_head, one_of_left, one_of_right, in_numbered}
+use Rattle.model.proofs.Distinct.{sum_within, one_of_head, one_of_left, one_of_right, in_numbered, distinct_nil, distinct_cons}
 use Rattle.model.proofs.Keeps.{sound_of}
 use Rattle.model.proofs.Sim.{Twin, sim_of}
 use Rattle.model.proofs.WasteClaims.{Leads}
@@ -152,9 +152,9 @@ not_there x (o ∷ os) h = or_from (eqb x o.id) (one_of x (identities os)) (othe
     other true e = absurd (let z : is x o ≡ 1 = ap one_if e in omega (arith, sums, z, h))
     other false e = refl
 
-distinct : (os : List Obj) → ((x : ℕ) → times x os ≤ 1) → Distinct (identities os)
-distinct [] h = tt
-distinct (o ∷ os) h = (not_there o.id os (omega (arith, sums, self o, h o.id)), distinct os (λ x. omega (arith, sums, h x)))
+distinct : (os : List Obj) → ((x : ℕ) → times x os ≤ 1) → IsDistinct eqb (identities os)
+distinct [] h = distinct_nil
+distinct (o ∷ os) h = distinct_cons o.id (identities os) (not_there o.id os (omega (arith, sums, self o, h o.id))) (distinct os (λ x. omega (arith, sums, h x)))
 
 words_by : (es : List Body) (os : List Obj) → AllByRecursion (Twin es) os → words_of os ≡ sizes es (identities os)
 words_by es [] t = refl

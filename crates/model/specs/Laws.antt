@@ -1,12 +1,12 @@
 -- The laws over whole uses, for every layout and every remembered set.
-use Rattle.std.specs.Prelude.{◌≡◌, ℕ, ◌+◌, ◌-◌, ◌*◌, ◌<◌, ◌≤◌, true, false, List, [], ◌∷◌, ◌++◌, length, take, Some, None, Option, slice_index_or, slice_get, sum_by, count_by, option_map, unwrap_or, Bool}
-use Rattle.std.specs.List.{range_with_len, AllByRecursion}
+use Rattle.std.specs.Prelude.{◌≡◌, ℕ, ◌+◌, ◌-◌, ◌*◌, ◌<◌, ◌≤◌, true, false, List, [], ◌∷◌, ◌++◌, length, take, Some, None, Option, slice_index_or, slice_get, sum_by, count_by, option_map, unwrap_or, Bool, nat_eq}
+use Rattle.std.specs.List.{range_with_len, AllByRecursion, IsDistinct}
 use Rattle.layout.specs.Meaning.{Meaning, Lawful}
 use Rattle.remembered.specs.Meaning.{Meaning as Remembers}
 use Rattle.model.specs.Calls.{Call, make, access, step, tally, full, refused, report, Report, Answer, Event, History, is_full, AtEach}
 use Rattle.model.specs.Bodies.{Body, fresh, size, is_root}
 use Rattle.model.specs.Plain.{Graph, graph_of, plain}
-use Rattle.model.specs.Trains.{Trains, train_objects, words_in_use, cars_in_use, numbers, one_of, Distinct, times, inside, capacity, car_count, car_words}
+use Rattle.model.specs.Trains.{Trains, train_objects, words_in_use, cars_in_use, numbers, one_of, times, inside, capacity, car_count, car_words}
 use Rattle.model.specs.Step.{place_all}
 use Rattle.model.specs.Space.{Model, space_of, Use, all_objects, carried}
 use Rattle.model.specs.Sound.{Sound}
@@ -151,8 +151,8 @@ CopiesFewEach h = AllByRecursion (λ e. CopiesFewIfStep e.call e.answer) h
 pub record StepsNeverFailAt (M : Meaning) (has : Remembers) (h : History) : Type 0 where
   -- cars and trains stand as told, and a car is in one place: numbers are below 64 and no two cars have the same
   pub stands : Sound (space_of M has h)
-  pub below : (n : ℕ) → one_of n (numbers (space_of M has h).trains) ≡ true → n < car_count
-  pub differ : Distinct (numbers (space_of M has h).trains)
+  pub below : AllByRecursion (λ n. n < car_count) (numbers (space_of M has h).trains)
+  pub differ : IsDistinct nat_eq (numbers (space_of M has h).trains)
   -- at the halt, and at each moment of a step made then
   pub free : FreeCar (space_of M has h).trains
   pub free_in_a_step : (n : ℕ) → FreeCar (moment n (space_of M has h) (space_of M has h).trains)

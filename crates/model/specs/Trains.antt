@@ -1,5 +1,5 @@
 -- Objects in cars, cars in trains, trains in a row.
-use Rattle.std.specs.Prelude.{◌≡◌, ℕ, zero, suc, pred, ◌+◌, Bool, false, cond, ◌&&◌, List, [], ◌∷◌, ◌++◌, length, Option, ◌==◌, nat_le, nat_lt, flat_map, map, find, option_map, if◌then◌else◌, sum_by, count_by}
+use Rattle.std.specs.Prelude.{ℕ, zero, suc, pred, ◌+◌, Bool, cond, ◌&&◌, List, [], ◌∷◌, ◌++◌, length, Option, ◌==◌, nat_le, nat_lt, flat_map, map, find, option_map, if◌then◌else◌, sum_by, count_by}
 use Rattle.std.specs.List.{list_any, prefix_len, range_with_len}
 use Rattle.model.specs.Bodies.{Body, size}
 
@@ -57,11 +57,6 @@ numbers ts = flat_map car_numbers ts
 
 abbrev pub one_of : ℕ → List ℕ → Bool
 one_of n ns = list_any (λ m. n == m) ns
-
--- no number stands twice
-abbrev pub Distinct : List ℕ → Type 0
-Distinct [] = Unit {0}
-Distinct (n ∷ ns) = (one_of n ns ≡ false) × Distinct ns
 
 -- the lowest number that is not among the used ones, or the number of cars if all are used
 abbrev pub lowest_free : List ℕ → ℕ
