@@ -1,9 +1,10 @@
 -- How full cars are, how many there are, and that one is always free.
-use Rattle.std.proofs.Common.{◌≡◌, ℕ, zero, suc, ◌+◌, ◌*◌, ◌<◌, ◌≤◌, Bool, true, false, ◌&&◌, ltb, leb, List, [], ◌∷◌, ◌++◌, length, take, None, Option, refl, arith, length-append, cond, pred, sum_by}
+use Rattle.std.proofs.Common.{◌≡◌, ℕ, zero, suc, ◌+◌, ◌*◌, ◌<◌, ◌≤◌, Bool, true, false, ◌&&◌, ltb, leb, List, [], ◌∷◌, ◌++◌, length, take, None, Option, refl, arith, length-append, cond, pred, sum_by, ap}
 use lib.ListN.{length-replicate}
 use Rattle.std.proofs.lemmas.Bool.{leb-true, leb-false, ltb-true, and_parts}
 use Rattle.std.specs.List.{AllByRecursion}
-use Rattle.std.proofs.lemmas.List.Sums.{sum_by-append}
+use Rattle.std.proofs.lemmas.List.Sums.{sum_by-append, sum_by-take-le}
+use Rattle.std.proofs.lemmas.List.{length-map, take-map}
 use Rattle.layout.specs.Meaning.{Meaning, Lawful}
 use Rattle.model.specs.Bodies.{fresh, size}
 use Rattle.model.specs.Trains.{Obj, Car, Train, Trains, train_objects, obj_size, words_of, words_in_use, cars_in_use, car_numbers, numbers, place, place_at, fits, with_object, opened, lowest_free, last_cars, arrival, most_trains, car_words}
@@ -72,12 +73,6 @@ standing_place_at k n o [] s = (place_stands n o [], tt)
 standing_place_at zero n o (t ∷ ts) s = (place_stands n o t, s.1)
 standing_place_at (suc k) n o (t ∷ ts) s = (s.0, standing_place_at k n o ts s.1)
 
-pub standing_place_all : (busy : List ℕ) (row : List Claim) (ts : Trains) → AllByRecursion HasCars ts → AllByRecursion HasCars (place_all busy row ts)
-standing_place_all busy [] ts s = s
-standing_place_all busy (c ∷ row) ts s =
-    let n = lowest_free (busy ++ numbers ts) in
-    standing_place_all busy row (place_at c.rank n c.object ts) (standing_place_at c.rank n c.object ts s)
-
 -- only the first train may have been without cars
 pub standing_trim_all : (busy : List ℕ) (row : List Claim) (cs : Train) (ts : Trains) → AllByRecursion HasCars ts → AllByRecursion HasCars (trim (place_all busy row (cs ∷ ts)))
 standing_trim_all busy [] [] ts s = s
@@ -139,9 +134,9 @@ arrival_below (t ∷ u ∷ ts) l = go (ltb (length (t ∷ u ∷ ts)) most_trains
 
 -- How many cars there are.
 
-train_by_words : (t : Train) → Filled t → 65 * length t ≤ words_of (train_objects t) + 65
+pub train_by_words : (t : Train) → Filled t → 65 * length t ≤ words_of (train_objects t) + 64
 train_by_words [] p = omega arith
-train_by_words (c ∷ []) p = omega arith
+train_by_words (c ∷ []) p = omega (arith, sums, p.0)
 train_by_words (c ∷ d ∷ cs) p = omega (arith, sums, p.0, train_by_words (d ∷ cs) p.2)
 
 pub cars_by_words : (ts : Trains) → AllByRecursion Filled ts → 65 * cars_in_use ts ≤ words_in_use ts + 65 * length ts
@@ -151,13 +146,9 @@ cars_by_words (t ∷ ts) p = omega (arith, sums, train_by_words t p.0, cars_by_w
 pub few_cars : (ts : Trains) → AllByRecursion Filled ts → words_in_use ts ≤ 3072 → length ts ≤ 8 → cars_in_use ts ≤ 55
 few_cars ts p w l = omega (arith, cars_by_words ts p)
 
-length-car_numbers : (t : Train) → length (car_numbers t) ≡ length t
-length-car_numbers [] = refl
-length-car_numbers (c ∷ cs) = omega (arith, length-car_numbers cs)
-
 pub length-numbers : (ts : Trains) → length (numbers ts) ≡ cars_in_use ts
 length-numbers [] = refl
-length-numbers (t ∷ ts) = omega (arith, sums, length-append (car_numbers t) (numbers ts), length-car_numbers t, length-numbers ts)
+length-numbers (t ∷ ts) = omega (arith, sums, length-append (car_numbers t) (numbers ts), length-map t (λ (c : Car). c.number), length-numbers ts)
 
 pub free_car : (ts : Trains) → cars_in_use ts ≤ 57 → FreeCar ts
 free_car ts h =
@@ -170,9 +161,7 @@ pub copied_few : (f : Car) (ws : List Wish) → words_of f.objects ≤ 128 → c
 copied_few f ws h = omega (arith, claims-total obj_size ws f.objects)
 
 pub total-take : (g : Obj → ℕ) (n : ℕ) (row : List Claim) → sum_by g (claimed (take n row)) ≤ sum_by g (claimed row)
-total-take g zero row = omega arith
-total-take g (suc n) [] = omega arith
-total-take g (suc n) (c ∷ row) = omega (arith, sums, total-take g n row)
+total-take g n row = omega (arith, ap (sum_by g) (take-map (λ (c : Claim). c.object) n row), sum_by-take-le g (claimed row) n)
 
 -- the cars while a row is placed, the first car not counted
 pub few_placed : (busy : List ℕ) (row : List Claim) (f : Car) (cs : Train) (ts : Trains)

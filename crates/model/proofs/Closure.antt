@@ -1,11 +1,11 @@
 -- Carrying is closed: what a claimed object or a wish holds is not left in the car.
-use Rattle.std.proofs.Common.{◌==◌, ◌≡◌, ℕ, zero, suc, ◌+◌, ◌≤◌, Bool, true, false, cond, eqb, ◌⊎◌, List, [], ◌∷◌, ◌++◌, length, get_or, Some, None, Option, sym, refl, ap, ◌∙◌, subst, inl, inr, arith, length-append, not, sum_by}
+use Rattle.std.proofs.Common.{◌==◌, ◌≡◌, ℕ, zero, suc, ◌+◌, ◌≤◌, Bool, true, false, cond, eqb, ◌⊎◌, List, [], ◌∷◌, ◌++◌, length, get_or, Some, None, Option, sym, refl, ap, subst, inl, inr, arith, length-append, not, sum_by}
 use Rattle.std.proofs.lemmas.Bool.{ne_eqb, eq-eqb}
 use Rattle.std.specs.List.{AllByRecursion}
 use Rattle.model.specs.Trains.{Obj, Train, Trains, train_objects, objects, times}
-use Rattle.model.specs.Claims.{take_out, visit, close, claim, Wish, Claim, all_to, claims, ref_wishes, object_wishes, train_wishes, trains_wishes}
+use Rattle.model.specs.Claims.{take_out, visit, close, claim, Wish, all_to, claims, ref_wishes, object_wishes, train_wishes, trains_wishes}
 use Rattle.model.specs.Step.{claimed, out_of}
-use Rattle.model.proofs.Totals.{take_out-total, visit-total, close-total, claim-total, claims-total, is, one_if, sums}
+use Rattle.model.proofs.Totals.{take_out-total, visit-total, close-total, claim-total, claims-total, is, one_if, sums, claimed_row}
 use Rattle.model.specs.Sound.{Points}
 use Rattle.model.proofs.Alls.{all_++, all_left, all_right}
 
@@ -79,18 +79,6 @@ claim_done x left =
     let d = close_done (length left) t.taken t.left h in
     all_++ _ t.taken (close (length left) t.taken t.left).taken d.0 d.1
 
-pub claimed_of_++ : (xs ys : List Claim) → claimed (xs ++ ys) ≡ claimed xs ++ claimed ys
-claimed_of_++ [] ys = refl
-claimed_of_++ (c ∷ xs) ys = ap (λ os. c.object ∷ os) (claimed_of_++ xs ys)
-
-pub claimed-all_to : (k : ℕ) (os : List Obj) → claimed (all_to k os) ≡ os
-claimed-all_to k [] = refl
-claimed-all_to k (o ∷ os) = ap (λ ps. o ∷ ps) (claimed-all_to k os)
-
--- the objects claimed for one wish, then those for the others
-pub claimed_row : (k : ℕ) (os : List Obj) (row : List Claim) → claimed (all_to k os ++ row) ≡ os ++ claimed row
-claimed_row k os row = claimed_of_++ (all_to k os) row ∙ ap (λ ps. ps ++ claimed row) (claimed-all_to k os)
-
 pub claims_done : (ws : List Wish) (left : List Obj) → AllByRecursion (Done (claims ws left).left) (claimed (claims ws left).taken)
 claims_done [] left = tt
 claims_done (w ∷ ws) left =
@@ -138,11 +126,6 @@ trains_each Q k (t ∷ ts) a =
 abbrev pub Wished : ℕ → List Wish → Type 0
 Wished x [] = ⊥
 Wished x (w ∷ ws) = (w.who ≡ x) ⊎ Wished x ws
-
-pub wished_left : (x : ℕ) (vs ws : List Wish) → Wished x vs → Wished x (vs ++ ws)
-wished_left x [] ws h = absurd h
-wished_left x (v ∷ vs) ws (inl e) = inl e
-wished_left x (v ∷ vs) ws (inr h) = inr (wished_left x vs ws h)
 
 pub wished_right : (x : ℕ) (vs ws : List Wish) → Wished x ws → Wished x (vs ++ ws)
 wished_right x [] ws h = h

@@ -5,6 +5,7 @@ use Rattle.std.specs.List.{range_with_len, prefix_len, AllByRecursion, IsDistinc
 use Rattle.std.proofs.lemmas.List.Sums.{prefix_len_stops, prefix_len_passes, sum_by-cons}
 use Rattle.std.proofs.lemmas.List.FromFn.{length-range_with_len, get_or-range_with_len}
 use Rattle.std.proofs.lemmas.Map.Keys.{IsDistinct-cons, IsDistinct-head, IsDistinct-tail}
+use Rattle.std.proofs.lemmas.List.Folds.{list_any-append}
 use Rattle.model.specs.Trains.{one_of, lowest_free}
 use Rattle.model.proofs.Totals.{sums}
 
@@ -48,24 +49,10 @@ pub one_of_apart : (x y : ℕ) (xs : List ℕ) → one_of x xs ≡ true → one_
 one_of_apart x y xs p q = ne_eqb x y (λ e. both_ways (one_of y xs) q (subst (λ (z : ℕ). one_of z xs ≡ true) e p))
 
 pub one_of_left : (x : ℕ) (xs ys : List ℕ) → one_of x xs ≡ true → one_of x (xs ++ ys) ≡ true
-one_of_left x [] ys e = absurd (both_ways false refl e)
-one_of_left x (y ∷ xs) ys e =
-    elim (or_cases (eqb x y) (one_of x xs) e) [
-      | inl p ↦ or_left (eqb x y) (one_of x (xs ++ ys)) p
-      | inr p ↦ or_right (eqb x y) (one_of x (xs ++ ys)) (one_of_left x xs ys p)
-    ]
+one_of_left x xs ys e = list_any-append (λ (m : ℕ). eqb x m) xs ys ∙ or_left (one_of x xs) (one_of x ys) e
 
 pub one_of_right : (x : ℕ) (xs ys : List ℕ) → one_of x ys ≡ true → one_of x (xs ++ ys) ≡ true
-one_of_right x [] ys e = e
-one_of_right x (y ∷ xs) ys e = or_right (eqb x y) (one_of x (xs ++ ys)) (one_of_right x xs ys e)
-
-pub one_of_either : (x : ℕ) (xs ys : List ℕ) → one_of x (xs ++ ys) ≡ true → (one_of x xs ≡ true) ⊎ (one_of x ys ≡ true)
-one_of_either x [] ys e = inr e
-one_of_either x (y ∷ xs) ys e =
-    elim (or_cases (eqb x y) (one_of x (xs ++ ys)) e) [
-      | inl p ↦ inl (or_left (eqb x y) (one_of x xs) p)
-      | inr p ↦ elim (one_of_either x xs ys p) [ inl q ↦ inl (or_right (eqb x y) (one_of x xs) q) | inr q ↦ inr q ]
-    ]
+one_of_right x xs ys e = list_any-append (λ (m : ℕ). eqb x m) xs ys ∙ or_right (one_of x xs) (one_of x ys) e
 
 -- the list without the first x
 abbrev pub without : ℕ → List ℕ → List ℕ

@@ -4,11 +4,12 @@ use Rattle.std.proofs.lemmas.Bool.{ne_eqb, leb-true, ltb-false, cases_eq, cases_
 use Rattle.std.specs.List.{AllByRecursion}
 use Rattle.std.specs.Prelude.{option_map, find}
 use Rattle.std.proofs.lemmas.List.Sums.{sum_by-append}
+use Rattle.std.proofs.lemmas.List.{length-map}
 use Rattle.layout.specs.Meaning.{Meaning, Lawful}
 use Rattle.remembered.specs.Meaning.{Meaning as Remembers}
 use Rattle.model.specs.Calls.{Call, make, access, step, tally, Access, History, Refusal, root, shape, full, refused, done}
 use Rattle.model.specs.Bodies.{Body, held, fresh, size, with_ref, with_value, is_root, root_count, Effect, leave, hold, point, store, reply_of, make_outcome, Outcome, outcome}
-use Rattle.model.specs.Trains.{Obj, Car, Train, Trains, train_objects, objects, words_of, words_in_use, obj_size, times, among, inside, alter, alter_object, place, place_at, arrival, numbers, lowest_free, capacity, most_trains}
+use Rattle.model.specs.Trains.{Obj, Car, Train, Trains, train_objects, objects, words_of, words_in_use, obj_size, times, among, inside, alter, alter_object, place, place_at, arrival, numbers, lowest_free, capacity, most_trains, alter_train}
 use Rattle.model.specs.Claims.{Wish, Claim, claims, ref_wishes, train_wishes, trains_wishes}
 use Rattle.model.specs.Step.{first_to, outside, mark_wishes, wishes, place_all, trim, out_of, mark_after, guard}
 use Rattle.model.specs.Space.{Model, opening, all_objects, made_by, has_room, space_with, carried, trains_after, step_by, step_on, act, space_of}
@@ -18,7 +19,7 @@ use Rattle.model.proofs.Alls.{all_++, all_left, all_right, claims_all, place_at_
 use Rattle.model.proofs.Cars.{filled_tail, filled_place_at, filled_place_all, filled_trim, standing_place_at, standing_trim_all, length-place_at, length-place_all, length-trim, arrival_below, fresh_sized}
 use Rattle.model.proofs.Closure.{is_self, Wished, claims_none, claims_done, ref_each, train_each, trains_each, out_some}
 use Rattle.model.proofs.Effects.{Brings, brings}
-use Rattle.model.proofs.Alters.{ref_size, value_size, objects-alter, first-alter, length-alter, alter-times, alter_all, alter-size, alter-words, all_filled_alter, standing_alter, set_either}
+use Rattle.model.proofs.Alters.{ref_size, value_size, objects-alter, first-alter, alter-times, alter_all, alter-size, alter-words, all_filled_alter, standing_alter, set_either}
 use Rattle.model.proofs.Outside.{first_none, first_some, Sends, outside_ranks, away, wishes_split, away_ranks, wishes_above, outside-away, claims_below, wishes_below}
 
 -- a make is refused and leaves all as it was, or it is done
@@ -40,6 +41,14 @@ is_few x o = go (eqb x o.id)
     go true = omega arith
     go false = omega arith
 
+-- each object lies among the objects that it is one of
+pub times_self : (os : List Obj) → AllByRecursion (λ o. 1 ≤ times o.id os) os
+times_self [] = tt
+times_self (o ∷ os) = (
+  omega (arith, sums, is_self o.id o refl),
+  all_map (λ p. 1 ≤ times p.id os) (λ p. 1 ≤ times p.id (o ∷ os)) (λ p h. omega (arith, sums, h)) os (times_self os),
+)
+
 -- an identity not yet given lies nowhere
 pub old_none : (n x : ℕ) (os : List Obj) → n ≤ x → AllByRecursion (λ o. o.id < n) os → times x os ≡ 0
 old_none n x [] h a = refl
@@ -60,7 +69,7 @@ inside_all P (o ∷ os) x b e h = go (λ q. inside_all P os x b q h.1) (eqb x o.
 pub inside_body : (R : Body → Type 0) (os : List Obj) (x : ℕ) (b : Body) → AllByRecursion (λ o. R o.body) os → inside os x ≡ Some b → R b
 inside_body R os x b a e = inside_all (λ o. R o.body) os x b e a
 
-no_ref : (n i y : ℕ) → get_or (replicate {A = Option ℕ} n None) i None ≡ Some y → ⊥
+pub no_ref : (n i y : ℕ) → get_or (replicate {A = Option ℕ} n None) i None ≡ Some y → ⊥
 no_ref zero i y e = let z : ◌≡◌ {A = ℕ} 0 1 = cc in omega arith
 no_ref (suc n) zero y e = let z : ◌≡◌ {A = ℕ} 0 1 = cc in omega arith
 no_ref (suc n) (suc i) y e = no_ref n i y e
@@ -146,11 +155,11 @@ module _ (M : Meaning) (law : Lawful M) where
         room = omega (arith, ap words_of e, alter-words x g keeps os, s.room);
         filled = all_filled_alter x g keeps m.trains s.filled;
         standing = standing_alter x g m.trains s.standing;
-        few = omega (arith, length-alter x g m.trains, s.few);
+        few = omega (arith, length-map m.trains (alter_train x g), s.few);
         mark = λ w q. let k = s.mark w q in record {
           lies = omega (arith, k.lies, ap (times w.who) (first-alter x g m.trains), alter-times x g w.who (first_objects m.trains));
           above = k.above;
-          within = omega (arith, k.within, length-alter x g m.trains);
+          within = omega (arith, k.within, length-map m.trains (alter_train x g));
           below = k.below;
         };
       }

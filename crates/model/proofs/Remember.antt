@@ -1,5 +1,5 @@
 -- AllByRecursion call keeps the remembered set complete, so no reference is overlooked.
-use Rattle.std.proofs.Common.{◌≡◌, ℕ, zero, suc, ◌+◌, ◌*◌, ◌<◌, ◌≤◌, Bool, true, false, cond, eqb, List, [], ◌∷◌, ◌++◌, length, get_or, replicate, Some, None, Option, sym, refl, ap, ◌∙◌, subst, arith, length-set, not}
+use Rattle.std.proofs.Common.{◌≡◌, ℕ, ◌+◌, ◌*◌, ◌<◌, ◌≤◌, Bool, true, false, cond, eqb, List, [], ◌∷◌, ◌++◌, length, get_or, Some, None, Option, sym, refl, ap, ◌∙◌, subst, arith, length-set, not}
 use lib.ListN.{length-replicate}
 use Rattle.std.proofs.lemmas.Bool.{eqb-false, ltb-false, or_parts}
 use Rattle.std.specs.List.{AllByRecursion, IsDistinct}
@@ -20,10 +20,9 @@ use Rattle.model.specs.Sound.{Points, Sized, Filled, SoundAt, Sound}
 use Rattle.model.proofs.Alls.{all_left, all_right, claims_all, place_at_all, all_map, all_with}
 use Rattle.model.proofs.Distinct.{one_of_apart, lowest_unused, all_at, distinct_nil, distinct_head}
 use Rattle.model.proofs.Cars.{RanksBelow, filled_tail, filled_place_at, length-place_at, few_cars, length-numbers}
-use Rattle.model.proofs.Closure.{is_self}
 use Rattle.model.proofs.Alters.{ref_size, value_size, objects-alter, alter_all}
 use Rattle.model.proofs.Outside.{claims_below, wishes_below}
-use Rattle.model.proofs.Keeps.{old_none, step_all, sound_of, make_cases}
+use Rattle.model.proofs.Keeps.{old_none, step_all, sound_of, make_cases, no_ref, times_self}
 use Rattle.model.proofs.RememberCars.{cars_in_row, row_objects, row_numbers, row_seat, row_slots, row_alter, row_trim, place_at-placed, Numbered, placed-numbered, numbered_right, numbered_apart, alter-numbers, seat-number, seat_found}
 use Rattle.model.proofs.RememberSlots.{InRefs, InObjects, InCars, cars_from, cars_all, By, cars_slots, Noted, Always, But, noted_right, noted_with, noted_placed, store_noted, point_noted, ToldSlot, noted_slots, slots_noted}
 use Rattle.model.proofs.RememberTold.{notes_keep, Gained, notes_gain, forgets_keep}
@@ -125,11 +124,6 @@ module _ (M : Meaning) (law : Lawful M) (has : Remembers) (told-law : RemembersL
 abbrev NotTo : ℕ → ℕ → ℕ → ℕ → Type 0
 NotTo z x i y = y ≡ z → ⊥
 
-none_held : (n i y : ℕ) → get_or (replicate {A = Option ℕ} n None) i None ≡ Some y → ⊥
-none_held zero i y e = let z : ◌≡◌ {A = ℕ} 0 1 = cc in omega arith
-none_held (suc n) zero y e = let z : ◌≡◌ {A = ℕ} 0 1 = cc in omega arith
-none_held (suc n) (suc i) y e = none_held n i y e
-
 place_remembers : (M : Meaning) (has : Remembers) (k n : ℕ) (o : Obj) (ts : Trains) (r : Row) → n < 64 → one_of n (numbers ts) ≡ false → Shaped M o.body
     → ((i y : ℕ) → get_or o.body.refs i None ≡ Some y → ⊥) → AllByRecursion (Points (λ y. y ≡ o.id → ⊥)) (objects ts)
     → Remembering M has ts r → Remembering M has (place_at k n o ts) r
@@ -161,7 +155,7 @@ module _ (M : Meaning) (law : Lawful M) (has : Remembers) (told-law : RemembersL
       let free = lowest_unused (numbers ts) (omega (arith, length-numbers ts, few)) in
       place_remembers M has (arrival ts) (lowest_free (numbers ts)) (record { id = m.made; body = fresh M k a b }) ts m.told free.0 free.1
       (ok, length-replicate {A = Option ℕ} (M.ref_count k a b) None, length-replicate {A = ℕ} (M.word_count k a b) 0)
-      (λ i y e. none_held (M.ref_count k a b) i y e)
+      (λ i y e. no_ref (M.ref_count k a b) i y e)
       (all_map (Points (λ y. 1 ≤ times y (objects ts))) (Points (λ y. y ≡ m.made → ⊥))
       (λ p u i y e q. omega (arith, u i y e, old_none m.made y (objects ts) (omega (arith, q)) s.old)) (objects ts) s.refs)
       rem
@@ -243,11 +237,6 @@ place_all_noted M has r os busy (c ∷ row) ts a p =
     let here : 1 ≤ times c.object.id os = a.0 in
     place_all_noted M has r os busy row (place_at c.rank n c.object ts) a.1
     (noted_placed M has r (Uncarried os) n c.object (λ i j y e u. omega (arith, u.0)) (λ x i u. omega (arith, u.1)) (place_at-placed c.rank n c.object ts) p)
-
-times_self : (os : List Obj) → AllByRecursion (λ o. 1 ≤ times o.id os) os
-times_self [] = tt
-times_self (o ∷ os) =
-    (omega (arith, sums, is_self o.id o refl), all_map (λ p. 1 ≤ times p.id os) (λ p. 1 ≤ times p.id (o ∷ os)) (λ p h. omega (arith, sums, h)) os (times_self os))
 
 untouched : (os : List Obj) (s : Slot) (y : ℕ) → s.target ≡ Some y → touched os s ≡ false → Uncarried os s.holder s.index y
 untouched os s y e t =

@@ -1,12 +1,13 @@
 -- AllByRecursion cars in one row: seats, slots and numbers go by it, and placing an object changes it at one place.
-use Rattle.std.proofs.Common.{◌≡◌, ℕ, zero, suc, ◌+◌, ◌*◌, ◌<◌, ◌≤◌, Bool, true, false, eqb, ◌⊎◌, List, [], ◌∷◌, ◌++◌, length, Some, None, Option, sym, refl, ap, ◌∙◌, subst, inl, inr, append_assoc, arith, cond}
+use Rattle.std.proofs.Common.{◌≡◌, ℕ, zero, suc, ◌+◌, ◌*◌, ◌<◌, ◌≤◌, Bool, true, false, eqb, ◌⊎◌, List, [], ◌∷◌, ◌++◌, length, Some, None, Option, sym, refl, ap, ◌∙◌, subst, inl, inr, append_assoc, arith, cond, flat_map}
 use Rattle.std.proofs.lemmas.Bool.{both_ways, cases_Bool, eqb-false, ltb-true, ltb-false, or_parts, or_from}
-use Rattle.std.specs.Prelude.{map}
 use Rattle.std.specs.List.{IsDistinct, AllByRecursion}
 use Rattle.std.proofs.lemmas.Map.Keys.{IsDistinct-tail}
+use Rattle.std.proofs.lemmas.List.{map-append}
+use Rattle.std.proofs.lemmas.List.Concat.{flat_map-append}
 use Rattle.layout.specs.Meaning.{Meaning}
 use Rattle.model.specs.Bodies.{Body}
-use Rattle.model.specs.Trains.{Obj, Car, Train, Trains, train_objects, objects, times, among, car_numbers, numbers, one_of, fits, with_object, opened, place, place_at, alter_train, alter, car_words, alter_object}
+use Rattle.model.specs.Trains.{Obj, Car, Train, Trains, train_objects, objects, times, among, car_numbers, numbers, one_of, fits, with_object, opened, place, place_at, alter_train, alter, car_words, alter_car}
 use Rattle.model.specs.Step.{trim}
 use Rattle.model.specs.Notes.{Seat, train_seat, seat, object_slots, train_slots, slots}
 use Rattle.model.proofs.Distinct.{one_of_here, one_of_there, one_of_head, one_of_apart, one_of_right, distinct_cons, distinct_head}
@@ -14,24 +15,15 @@ use Rattle.model.proofs.Totals.{sums}
 
 -- the cars of all trains, one train after another
 abbrev pub cars_in_row : Trains → Train
-cars_in_row [] = []
-cars_in_row (t ∷ ts) = t ++ cars_in_row ts
-
-train_objects-++ : (t u : Train) → train_objects (t ++ u) ≡ train_objects t ++ train_objects u
-train_objects-++ [] u = refl
-train_objects-++ (c ∷ t) u = ap (λ os. c.objects ++ os) (train_objects-++ t u) ∙ sym (append_assoc c.objects (train_objects t) (train_objects u))
+cars_in_row ts = flat_map (λ t. t) ts
 
 pub row_objects : (ts : Trains) → train_objects (cars_in_row ts) ≡ objects ts
 row_objects [] = refl
-row_objects (t ∷ ts) = train_objects-++ t (cars_in_row ts) ∙ ap (λ os. train_objects t ++ os) (row_objects ts)
-
-pub car_numbers-++ : (t u : Train) → car_numbers (t ++ u) ≡ car_numbers t ++ car_numbers u
-car_numbers-++ [] u = refl
-car_numbers-++ (c ∷ t) u = ap (λ ns. c.number ∷ ns) (car_numbers-++ t u)
+row_objects (t ∷ ts) = flat_map-append (λ (c : Car). c.objects) t (cars_in_row ts) ∙ ap (λ os. train_objects t ++ os) (row_objects ts)
 
 pub row_numbers : (ts : Trains) → car_numbers (cars_in_row ts) ≡ numbers ts
 row_numbers [] = refl
-row_numbers (t ∷ ts) = car_numbers-++ t (cars_in_row ts) ∙ ap (λ ns. car_numbers t ++ ns) (row_numbers ts)
+row_numbers (t ∷ ts) = map-append (λ (c : Car). c.number) t (cars_in_row ts) ∙ ap (λ ns. car_numbers t ++ ns) (row_numbers ts)
 
 train_seat-++ : (n x : ℕ) (t u : Train) (rest : Option Seat) → train_seat n x (t ++ u) rest ≡ train_seat n x t (train_seat (n + length t) x u rest)
 train_seat-++ n x [] u rest = let e : n ≡ n + 0 = omega arith in ap (λ k. train_seat k x u rest) e
@@ -61,15 +53,9 @@ pub row_slots : (M : Meaning) (n : ℕ) (ts : Trains) → slots M n ts ≡ train
 row_slots M n [] = refl
 row_slots M n (t ∷ ts) = ap (λ ss. train_slots M n t ++ ss) (row_slots M (n + length t) ts) ∙ sym (train_slots-++ M n t (cars_in_row ts))
 
-alter_train-++ : (x : ℕ) (g : Body → Body) (t u : Train) → alter_train x g (t ++ u) ≡ alter_train x g t ++ alter_train x g u
-alter_train-++ x g [] u = refl
-alter_train-++ x g (c ∷ t) u =
-    let d : Car = record { number = c.number; objects = map (alter_object x g) c.objects } in
-    ap (λ (v : Train). d ∷ v) (alter_train-++ x g t u)
-
 pub row_alter : (x : ℕ) (g : Body → Body) (ts : Trains) → cars_in_row (alter x g ts) ≡ alter_train x g (cars_in_row ts)
 row_alter x g [] = refl
-row_alter x g (t ∷ ts) = ap (λ u. alter_train x g t ++ u) (row_alter x g ts) ∙ sym (alter_train-++ x g t (cars_in_row ts))
+row_alter x g (t ∷ ts) = ap (λ u. alter_train x g t ++ u) (row_alter x g ts) ∙ sym (map-append (alter_car x g) t (cars_in_row ts))
 
 pub row_trim : (ts : Trains) → cars_in_row (trim ts) ≡ cars_in_row ts
 row_trim [] = refl
@@ -146,7 +132,7 @@ numbered_right (c ∷ t) u k = numbered_right t u (k.0.1, IsDistinct-tail eqb c.
 pub numbered_apart : (t u : Train) → Numbered (t ++ u) → (z : ℕ) → one_of z (car_numbers u) ≡ true → one_of z (car_numbers t) ≡ false
 numbered_apart [] u k z e = refl
 numbered_apart (c ∷ t) u k z e =
-    let in_rest : one_of z (car_numbers (t ++ u)) ≡ true = subst (λ (ns : List ℕ). one_of z ns ≡ true) (sym (car_numbers-++ t u)) (one_of_right z (car_numbers t) (car_numbers u) e) in
+    let in_rest : one_of z (car_numbers (t ++ u)) ≡ true = subst (λ (ns : List ℕ). one_of z ns ≡ true) (sym (map-append (λ (c : Car). c.number) t u)) (one_of_right z (car_numbers t) (car_numbers u) e) in
     or_from (eqb z c.number) (one_of z (car_numbers t)) (one_of_apart z c.number (car_numbers (t ++ u)) in_rest (distinct_head c.number (car_numbers (t ++ u)) k.1))
     (numbered_apart t u (k.0.1, IsDistinct-tail eqb c.number (car_numbers (t ++ u)) k.1) z e)
 

@@ -1,6 +1,7 @@
 -- Numbers added up over objects: carrying and placing lose nothing and make nothing.
-use Rattle.std.proofs.Common.{◌≡◌, ℕ, zero, suc, ◌+◌, Bool, true, false, eqb, List, [], ◌∷◌, ◌++◌, length, Some, None, Option, refl, arith, cond, not, sum_by}
+use Rattle.std.proofs.Common.{◌∙◌, ◌≡◌, ℕ, zero, suc, ◌+◌, Bool, true, false, eqb, List, [], ◌∷◌, ◌++◌, length, Some, None, Option, refl, arith, cond, not, sum_by, ap}
 use Rattle.std.proofs.lemmas.List.Sums.{sum_by-append, sum_by-cons}
+use Rattle.std.proofs.lemmas.List.{map-append}
 use Rattle.model.specs.Trains.{Obj, Train, Trains, train_objects, objects, place, place_at, fits, with_object, opened, numbers, lowest_free}
 use Rattle.model.specs.Claims.{Taken, take_out, in_front, visit, close, claim, Wish, Claim, all_to, claims}
 use Rattle.model.specs.Step.{claimed, place_all, trim}
@@ -14,6 +15,14 @@ one_if b = cond b 1 0
 -- what `times` counts of an object
 abbrev pub is : ℕ → Obj → ℕ
 is x o = one_if (eqb x o.id)
+
+claimed-all_to : (k : ℕ) (os : List Obj) → claimed (all_to k os) ≡ os
+claimed-all_to k [] = refl
+claimed-all_to k (o ∷ os) = ap (λ ps. o ∷ ps) (claimed-all_to k os)
+
+-- the objects claimed for one wish, then those for the others
+pub claimed_row : (k : ℕ) (os : List Obj) (row : List Claim) → claimed (all_to k os ++ row) ≡ os ++ claimed row
+claimed_row k os row = map-append (λ (c : Claim). c.object) (all_to k os) row ∙ ap (λ ps. ps ++ claimed row) (claimed-all_to k os)
 
 module _ (f : Obj → ℕ) where
   -- what was taken and what is left
@@ -51,21 +60,13 @@ module _ (f : Obj → ℕ) where
       let t = take_out x left in
       omega (arith, then_total t.taken (close (length left) t.taken t.left), close-total (length left) t.taken t.left, take_out-total x left)
 
-  pub claimed-++ : (xs ys : List Claim) → sum_by f (claimed (xs ++ ys)) ≡ sum_by f (claimed xs) + sum_by f (claimed ys)
-  claimed-++ [] ys = omega arith
-  claimed-++ (c ∷ xs) ys = omega (arith, sums, claimed-++ xs ys)
-
-  pub all_to-total : (k : ℕ) (os : List Obj) → sum_by f (claimed (all_to k os)) ≡ sum_by f os
-  all_to-total k [] = refl
-  all_to-total k (o ∷ os) = omega (arith, sums, all_to-total k os)
-
   -- each object of the car is claimed or left
   pub claims-total : (ws : List Wish) (left : List Obj) → sum_by f (claimed (claims ws left).taken) + sum_by f (claims ws left).left ≡ sum_by f left
   claims-total [] left = omega arith
   claims-total (w ∷ ws) left =
       let t = claim w.who left in
       let c = claims ws t.left in
-      omega (arith, claimed-++ (all_to w.rank t.taken) c.taken, all_to-total w.rank t.taken, claims-total ws t.left, claim-total w.who left)
+      omega (arith, sums, ap (sum_by f) (claimed_row w.rank t.taken c.taken), claims-total ws t.left, claim-total w.who left)
 
   pub place-total : (n : ℕ) (o : Obj) (t : Train) → sum_by f (train_objects (place n o t)) ≡ sum_by f (train_objects t) + f o
   place-total n o [] = omega arith

@@ -1,5 +1,5 @@
 -- Waste stays behind: what was unreachable at a halt is never held again, and never lies in a later train than it may.
-use Rattle.std.proofs.Common.{◌≡◌, ℕ, zero, suc, pred, ◌+◌, ◌-◌, ◌≤◌, Bool, true, false, cond, eqb, List, [], ◌∷◌, ◌++◌, get_or, replicate, Some, None, Option, sym, refl, subst, arith, not}
+use Rattle.std.proofs.Common.{◌≡◌, ℕ, zero, suc, pred, ◌+◌, ◌-◌, ◌≤◌, Bool, true, false, cond, eqb, List, [], ◌∷◌, ◌++◌, get_or, Some, None, Option, sym, refl, subst, arith, not}
 use Rattle.std.specs.List.{AllByRecursion}
 use Rattle.layout.specs.Meaning.{Meaning}
 use Rattle.remembered.specs.Meaning.{Meaning as Remembers}
@@ -13,7 +13,7 @@ use Rattle.model.specs.Sound.{Points}
 use Rattle.model.proofs.Alls.{all_left, all_right, place_train_all, place_at_all, all_++}
 use Rattle.model.proofs.Alters.{objects-alter, train_alter, alter_all, set_either}
 use Rattle.model.proofs.Effects.{Brings, brings}
-use Rattle.model.proofs.Keeps.{step_all, inside_all, make_cases}
+use Rattle.model.proofs.Keeps.{step_all, inside_all, make_cases, no_ref}
 use Rattle.model.proofs.WasteClaims.{Leads, Sent, Goes, claims_of, ref_sent, train_sent}
 
 abbrev pub Not : (ℕ → Type 0) → ℕ → Type 0
@@ -24,11 +24,6 @@ pub record Apart (G : ℕ → Type 0) (m : Model) : Type 0 where
   pub new : (x : ℕ) → m.made ≤ x → Not G x
   pub roots : (r x : ℕ) → held m.roots r ≡ Some x → Not G x
   pub leads : AllByRecursion (Leads (Not G)) (all_objects m)
-
-none_held : (n i y : ℕ) → get_or (replicate n None) i None ≡ Some y → ⊥
-none_held zero i y e = let z : ◌≡◌ {A = ℕ} 0 1 = cc in omega arith
-none_held (suc n) zero y e = let z : ◌≡◌ {A = ℕ} 0 1 = cc in omega arith
-none_held (suc n) (suc i) y e = none_held n i y e
 
 -- a step only moves objects, or drops them, and leaves the roots
 module _ (P : Obj → Type 0) (M : Meaning) (has : Remembers) (m : Model) where
@@ -76,7 +71,7 @@ module _ (G : ℕ → Type 0) where
     new = λ x l. h.new x (omega arith);
     roots = λ q x e. set_either m.roots r q (Some m.made) x (Not G x) (h.roots q x) (λ i. let d : m.made ≡ x = cc in h.new x (omega arith)) e;
     leads = place_at_all (Leads (Not G)) (arrival m.trains) (lowest_free (numbers m.trains)) (record { id = m.made; body = fresh M k a b }) m.trains
-        h.leads (λ n i y e. absurd (none_held (M.ref_count k a b) i y e));
+        h.leads (λ n i y e. absurd (no_ref (M.ref_count k a b) i y e));
   }
 
   -- no call brings back what is of G

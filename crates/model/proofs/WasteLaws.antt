@@ -16,7 +16,7 @@ use Rattle.model.specs.Reach.{by_root, by_ref, SpaceReaches, Unreachable}
 use Rattle.model.specs.Laws.{steps, train_steps, WasteUpTo, GoneAfter, WasteNearTheFrontLeavesSooner, WasteLeavesInCountedSteps, size_of, sizes, WordsInUseAreOfTheReachableAndTheNew, is_step}
 use Rattle.model.specs.Sound.{SoundAt, Sound}
 use Rattle.model.proofs.Distinct.{sum_within, one_of_head, one_of_left, one_of_right, in_numbered, distinct_nil, distinct_cons}
-use Rattle.model.proofs.Keeps.{sound_of}
+use Rattle.model.proofs.Keeps.{sound_of, times_self}
 use Rattle.model.proofs.Sim.{Twin, sim_of}
 use Rattle.model.proofs.WasteClaims.{Leads}
 use Rattle.model.proofs.WasteClean.{Not, Apart, apart_act, Clean}
@@ -25,10 +25,7 @@ use Rattle.model.proofs.WasteGoing.{GoingAt, Going, going_act, ended}
 use Rattle.model.proofs.Alls.{all_map}
 use Rattle.model.specs.Claims.{Wish}
 use Rattle.model.proofs.Totals.{is, one_if, sums}
-
--- an object is found under its identity, if each identity is there once
-self : (o : Obj) → is o.id o ≡ 1
-self o = ap one_if (eq-eqb o.id o.id refl)
+use Rattle.model.proofs.Closure.{is_self}
 
 inside_lies : (os : List Obj) (x : ℕ) (b : Body) → inside os x ≡ Some b → 1 ≤ times x os
 inside_lies [] x b e = absurd (let z : ◌≡◌ {A = ℕ} 0 1 = cc in omega arith)
@@ -38,6 +35,7 @@ inside_lies (o ∷ os) x b e = omega (arith, sums, go (inside_lies os x b) (eqb 
     go more true e = omega arith
     go more false e = omega (arith, more e)
 
+-- an object is found under its identity, if each identity is there once
 inside_self : (os : List Obj) → ((x : ℕ) → times x os ≤ 1) → AllByRecursion (λ o. inside os o.id ≡ Some o.body) os
 inside_self [] h = tt
 inside_self (o ∷ os) h = (
@@ -49,10 +47,6 @@ inside_self (o ∷ os) h = (
     go : (p : Obj) → inside os p.id ≡ Some p.body → (t : Bool) → eqb p.id o.id ≡ t → option_map (λ q. q.body) (cond t (Some o) (find (λ q. eqb p.id q.id) os)) ≡ Some p.body
     go p e true q = absurd (let z : is p.id o ≡ 1 = ap one_if q in omega (arith, sums, z, h p.id, inside_lies os p.id p.body e))
     go p e false q = e
-
-each_lies : (os : List Obj) → AllByRecursion (λ o. 1 ≤ times o.id os) os
-each_lies [] = tt
-each_lies (o ∷ os) = (omega (arith, sums, self o), all_map (λ p. 1 ≤ times p.id os) (λ p. 1 ≤ times p.id (o ∷ os)) (λ p e. omega (arith, sums, e)) os (each_lies os))
 
 -- at the halt itself
 apart_start : (m : Model) → Sound m → Apart (Unreachable m) m
@@ -69,7 +63,7 @@ apart_start m s = record {
 
 lies_all : (Q : ℕ → Type 0) (os : List Obj) → ((x : ℕ) → 1 ≤ times x os → Q x) → AllByRecursion (λ o. Q o.id) os
 lies_all Q [] h = tt
-lies_all Q (o ∷ os) h = (h o.id (omega (arith, sums, self o)), lies_all Q os (λ x l. h x (omega (arith, sums, l))))
+lies_all Q (o ∷ os) h = (h o.id (omega (arith, sums, is_self o.id o refl)), lies_all Q os (λ x l. h x (omega (arith, sums, l))))
 
 clean_start : (G : ℕ → Type 0) (b : ℕ) (ts : Trains) → ((k x : ℕ) → b ≤ k → 1 ≤ times x (train_objects (get_or ts k [])) → Not G x) → Clean G b ts
 clean_start G b [] h = tt
@@ -154,7 +148,7 @@ not_there x (o ∷ os) h = or_from (eqb x o.id) (one_of x (identities os)) (othe
 
 distinct : (os : List Obj) → ((x : ℕ) → times x os ≤ 1) → IsDistinct eqb (identities os)
 distinct [] h = distinct_nil
-distinct (o ∷ os) h = distinct_cons o.id (identities os) (not_there o.id os (omega (arith, sums, self o, h o.id))) (distinct os (λ x. omega (arith, sums, h x)))
+distinct (o ∷ os) h = distinct_cons o.id (identities os) (not_there o.id os (omega (arith, sums, is_self o.id o refl, h o.id))) (distinct os (λ x. omega (arith, sums, h x)))
 
 words_by : (es : List Body) (os : List Obj) → AllByRecursion (Twin es) os → words_of os ≡ sizes es (identities os)
 words_by es [] t = refl
@@ -193,7 +187,7 @@ words_of_the_reachable_and_the_new M law has h more on_use xs reach =
     let n = space_of M has (more ++ h) in
     let s = sound_of M law has (more ++ h) in
     words-within (graph_of M (more ++ h)).entries (all_objects n) xs (range_with_len m.made (n.made - m.made)) s.once (sim_of M law has (more ++ h) on_use.use_after).twins
-    (known_all m n xs reach (λ x g. waste_leaves M law has h (first_use more on_use.use_after) more on_use x g) (all_objects n) s.old (each_lies (all_objects n)))
+    (known_all m n xs reach (λ x g. waste_leaves M law has h (first_use more on_use.use_after) more on_use x g) (all_objects n) s.old (times_self (all_objects n)))
   where
     first_use : (more : History) → Use M has (more ++ h) → Use M has h
     first_use [] u = u

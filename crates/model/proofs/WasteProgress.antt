@@ -2,9 +2,8 @@
 use Rattle.std.proofs.Common.{◌==◌, ◌≡◌, ℕ, zero, suc, ◌+◌, ◌*◌, ◌≤◌, Bool, true, false, cond, ltb, List, [], ◌∷◌, ◌++◌, length, Some, None, Option, sym, refl, ap, ◌∙◌, subst, inl, inr, arith, sum_by, not}
 use Rattle.std.proofs.lemmas.Bool.{lt-ltb, ltb-true, ltb-false, ne_eqb, cases_lt}
 use Rattle.std.specs.List.{AllByRecursion}
-use Rattle.std.specs.Prelude.{map}
 use Rattle.model.specs.Bodies.{Body, Roots}
-use Rattle.model.specs.Trains.{Obj, Car, Train, Trains, train_objects, objects, words_of, place, place_at, fits, with_object, opened, numbers, lowest_free, times, among, alter_train, alter_object}
+use Rattle.model.specs.Trains.{Obj, Car, Train, Trains, train_objects, objects, words_of, place, place_at, fits, with_object, opened, numbers, lowest_free, times, among, alter_train}
 use Rattle.model.specs.Claims.{Wish, Claim}
 use Rattle.model.specs.Step.{first_to, outside, wishes, place_all, out_of, back_of, claimed, mark_after, guard}
 use Rattle.model.specs.Space.{Model, carried}
@@ -12,9 +11,10 @@ use Rattle.model.proofs.Totals.{claims-total, place-total, is, sums}
 use Rattle.model.specs.Sound.{Sized, Filled, SoundAt}
 use Rattle.model.proofs.Alls.{all_left}
 use Rattle.model.proofs.Closure.{Wished}
-use Rattle.model.proofs.Alters.{alter-times}
+use Rattle.model.proofs.Alters.{alter-times, train_alter, alter-total}
 use Rattle.model.proofs.Outside.{Sends, first_some, outside_ranks, outside-away, mark_away, away}
 use Rattle.model.proofs.Keeps.{leaves, is_few}
+use Rattle.model.proofs.Cars.{train_by_words}
 
 abbrev pub one : Obj → ℕ
 one o = 1
@@ -44,11 +44,6 @@ spot_short x (c ∷ cs) = go (spot_short x cs) (among x c.objects)
     go h true = omega arith
     go h false = omega arith
 
-filled_long : (t : Train) → Filled t → 65 * length t ≤ words_of (train_objects t) + 64
-filled_long [] h = omega arith
-filled_long (c ∷ []) h = omega (arith, sums, h.0)
-filled_long (c ∷ d ∷ cs) h = omega (arith, sums, filled_long (d ∷ cs) h.2, h.0)
-
 sized_two : (os : List Obj) → AllByRecursion Sized os → 2 * sum_by one os ≤ words_of os
 sized_two [] h = omega arith
 sized_two (o ∷ os) h = omega (arith, sums, sized_two os h.1, h.0.0)
@@ -70,7 +65,7 @@ mark_spot_few (Some w) t h = omega (arith, spot_short w.who t)
 
 module _ (made : ℕ) (rs : Roots) (t : Train) (ts : Trains) (mk : Option Wish) (s : SoundAt made rs (t ∷ ts) mk) where
   pub short : length t ≤ 63
-  short = omega (arith, sums, filled_long t s.filled.0, s.room)
+  short = omega (arith, sums, train_by_words t s.filled.0, s.room)
 
   pub toil_low : 65 ≤ toil mk t
   toil_low = omega (arith, filled_some t s.standing.0 s.filled.0)
@@ -204,14 +199,8 @@ module _ (f : Car) (cs : Train) (ts : Trains) (m : Model) (s : SoundAt m.made m.
 
 -- altering a body changes neither number
 module _ (y : ℕ) (g : Body → Body) where
-  count-objects : (os : List Obj) → sum_by one (map (alter_object y g) os) ≡ sum_by one os
-  count-objects [] = refl
-  count-objects (o ∷ os) = omega (arith, sums, count-objects os)
-
-  pub count-alter : (t : Train) → sum_by one (train_objects (alter_train y g t)) ≡ sum_by one (train_objects t)
-  count-alter [] = refl
-  count-alter (c ∷ cs) =
-      omega (arith, sums, count-objects c.objects, count-alter cs)
+  count-alter : (t : Train) → sum_by one (train_objects (alter_train y g t)) ≡ sum_by one (train_objects t)
+  count-alter t = ap (sum_by one) (train_alter y g t) ∙ alter-total y g one (λ o. refl) (train_objects t)
 
   pub spot-alter : (x : ℕ) (t : Train) → spot x (alter_train y g t) ≡ spot x t
   spot-alter x [] = refl

@@ -110,8 +110,11 @@ inside os x = option_map (λ o. o.body) (find (λ o. x == o.id) os)
 abbrev pub alter_object : ℕ → (Body → Body) → Obj → Obj
 alter_object x f o = record { id = o.id; body = cond (x == o.id) (f o.body) o.body }
 
+abbrev pub alter_car : ℕ → (Body → Body) → Car → Car
+alter_car x f c = record { number = c.number; objects = map (alter_object x f) c.objects }
+
 abbrev pub alter_train : ℕ → (Body → Body) → Train → Train
-alter_train x f t = map (λ c. record { number = c.number; objects = map (alter_object x f) c.objects }) t
+alter_train x f t = map (alter_car x f) t
 
 abbrev pub alter : ℕ → (Body → Body) → Trains → Trains
 alter x f ts = map (alter_train x f) ts
