@@ -1,8 +1,12 @@
 -- A changed reference or data word moves no object and changes no size.
-use Rattle.std.proofs.Common.{◌≡◌, ℕ, zero, suc, Bool, true, false, cond, eqb, List, [], ◌∷◌, ◌++◌, length, get_or, set, Some, None, Option, sym, refl, ap, ◌∙◌, ap₂, arith, length-set}
+use Rattle.std.proofs.Common.{◌≡◌, ℕ, zero, suc, Bool, true, false, cond, eqb, List, [], ◌∷◌, ◌++◌, get_or, set, Some, None, Option, sym, refl, ap, ◌∙◌, ap₂, arith, length-set, sum_by}
+use Rattle.std.specs.List.{AllByRecursion}
+use Rattle.std.specs.Prelude.{map}
+use Rattle.std.proofs.lemmas.List.{map-append, length-map}
 use Rattle.model.specs.Bodies.{Body, size, with_ref, with_value}
-use Rattle.model.specs.Trains.{Obj, Train, Trains, train_objects, objects, total, obj_size, words_of, times, is, alter_object, alter_objects, alter_train, alter}
-use Rattle.model.specs.Sound.{All, Filled, AllFilled, Standing, first_objects}
+use Rattle.model.specs.Trains.{Obj, Train, Trains, train_objects, objects, obj_size, words_of, times, alter_object, alter_train, alter, alter_car}
+use Rattle.model.specs.Sound.{Filled, first_objects, HasCars}
+use Rattle.model.proofs.Totals.{is, sums}
 
 pub ref_size : (i : ℕ) (h : Option ℕ) (b : Body) → size (with_ref i h b) ≡ size b
 ref_size i h b = omega (arith, length-set b.refs i h)
@@ -11,34 +15,26 @@ pub value_size : (w v : ℕ) (b : Body) → size (with_value w v b) ≡ size b
 value_size w v b = omega (arith, length-set b.values w v)
 
 module _ (x : ℕ) (g : Body → Body) where
-  pub alter-++ : (xs ys : List Obj) → alter_objects x g (xs ++ ys) ≡ alter_objects x g xs ++ alter_objects x g ys
-  alter-++ [] ys = refl
-  alter-++ (o ∷ xs) ys = ap (λ os. alter_object x g o ∷ os) (alter-++ xs ys)
-
-  pub train_alter : (t : Train) → train_objects (alter_train x g t) ≡ alter_objects x g (train_objects t)
+  pub train_alter : (t : Train) → train_objects (alter_train x g t) ≡ map (alter_object x g) (train_objects t)
   train_alter [] = refl
-  train_alter (c ∷ cs) = ap (λ os. alter_objects x g c.objects ++ os) (train_alter cs) ∙ sym (alter-++ c.objects (train_objects cs))
+  train_alter (c ∷ cs) = ap (λ os. map (alter_object x g) c.objects ++ os) (train_alter cs) ∙ sym (map-append (alter_object x g) c.objects (train_objects cs))
 
-  pub objects-alter : (ts : Trains) → objects (alter x g ts) ≡ alter_objects x g (objects ts)
+  pub objects-alter : (ts : Trains) → objects (alter x g ts) ≡ map (alter_object x g) (objects ts)
   objects-alter [] = refl
-  objects-alter (t ∷ ts) = ap₂ (λ os ps. os ++ ps) (train_alter t) (objects-alter ts) ∙ sym (alter-++ (train_objects t) (objects ts))
+  objects-alter (t ∷ ts) = ap₂ (λ os ps. os ++ ps) (train_alter t) (objects-alter ts) ∙ sym (map-append (alter_object x g) (train_objects t) (objects ts))
 
-  pub first-alter : (ts : Trains) → first_objects (alter x g ts) ≡ alter_objects x g (first_objects ts)
+  pub first-alter : (ts : Trains) → first_objects (alter x g ts) ≡ map (alter_object x g) (first_objects ts)
   first-alter [] = refl
   first-alter (t ∷ ts) = train_alter t
 
-  pub length-alter : (ts : Trains) → length (alter x g ts) ≡ length ts
-  length-alter [] = refl
-  length-alter (t ∷ ts) = omega (arith, length-alter ts)
-
-  pub alter-total : (f : Obj → ℕ) → ((o : Obj) → f (alter_object x g o) ≡ f o) → (os : List Obj) → total f (alter_objects x g os) ≡ total f os
+  pub alter-total : (f : Obj → ℕ) → ((o : Obj) → f (alter_object x g o) ≡ f o) → (os : List Obj) → sum_by f (map (alter_object x g) os) ≡ sum_by f os
   alter-total f h [] = refl
-  alter-total f h (o ∷ os) = omega (arith, h o, alter-total f h os)
+  alter-total f h (o ∷ os) = omega (arith, sums, h o, alter-total f h os)
 
-  pub alter-times : (y : ℕ) (os : List Obj) → times y (alter_objects x g os) ≡ times y os
+  pub alter-times : (y : ℕ) (os : List Obj) → times y (map (alter_object x g) os) ≡ times y os
   alter-times y = alter-total (is y) (λ o. refl)
 
-  pub alter_all : (P Q : Obj → Type 0) → ((o : Obj) → P o → Q (alter_object x g o)) → (os : List Obj) → All P os → All Q (alter_objects x g os)
+  pub alter_all : (P Q : Obj → Type 0) → ((o : Obj) → P o → Q (alter_object x g o)) → (os : List Obj) → AllByRecursion P os → AllByRecursion Q (map (alter_object x g) os)
   alter_all P Q h [] a = tt
   alter_all P Q h (o ∷ os) a = (h o a.0, alter_all P Q h os a.1)
 
@@ -50,7 +46,7 @@ module _ (x : ℕ) (g : Body → Body) where
         go true = keeps o.body
         go false = refl
 
-    pub alter-words : (os : List Obj) → words_of (alter_objects x g os) ≡ words_of os
+    pub alter-words : (os : List Obj) → words_of (map (alter_object x g) os) ≡ words_of os
     alter-words = alter-total obj_size alter-size
 
     filled_alter : (t : Train) → Filled t → Filled (alter_train x g t)
@@ -59,17 +55,13 @@ module _ (x : ℕ) (g : Body → Body) where
     filled_alter (c ∷ d ∷ cs) h =
         (omega (arith, alter-words c.objects, h.0), omega (arith, alter-words c.objects, h.1), filled_alter (d ∷ cs) h.2)
 
-    pub all_filled_alter : (ts : Trains) → AllFilled ts → AllFilled (alter x g ts)
+    pub all_filled_alter : (ts : Trains) → AllByRecursion Filled ts → AllByRecursion Filled (alter x g ts)
     all_filled_alter [] h = tt
     all_filled_alter (t ∷ ts) h = (filled_alter t h.0, all_filled_alter ts h.1)
 
-  length_train : (t : Train) → length (alter_train x g t) ≡ length t
-  length_train [] = refl
-  length_train (c ∷ cs) = omega (arith, length_train cs)
-
-  pub standing_alter : (ts : Trains) → Standing ts → Standing (alter x g ts)
+  pub standing_alter : (ts : Trains) → AllByRecursion HasCars ts → AllByRecursion HasCars (alter x g ts)
   standing_alter [] h = tt
-  standing_alter (t ∷ ts) h = (omega (arith, length_train t, h.0), standing_alter ts h.1)
+  standing_alter (t ∷ ts) h = (omega (arith, length-map t (alter_car x g), h.0), standing_alter ts h.1)
 
 -- the references of a body after one was set
 pub set_either : (hs : List (Option ℕ)) (i j : ℕ) (h : Option ℕ) (y : ℕ) (Q : Type 0) → (get_or hs j None ≡ Some y → Q) → (h ≡ Some y → Q) → get_or (set hs i h) j None ≡ Some y → Q

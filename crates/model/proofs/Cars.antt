@@ -1,17 +1,20 @@
 -- How full cars are, how many there are, and that one is always free.
-use Rattle.std.proofs.Common.{◌≡◌, ℕ, zero, suc, ◌+◌, ◌*◌, ◌<◌, ◌≤◌, Bool, true, false, ◌&&◌, ltb, leb, List, [], ◌∷◌, ◌++◌, length, take, None, Option, refl, arith, length-append}
+use Rattle.std.proofs.Common.{◌≡◌, ℕ, zero, suc, ◌+◌, ◌*◌, ◌<◌, ◌≤◌, Bool, true, false, ◌&&◌, ltb, leb, List, [], ◌∷◌, ◌++◌, length, take, None, Option, refl, arith, length-append, cond, pred, sum_by, ap}
 use lib.ListN.{length-replicate}
 use Rattle.std.proofs.lemmas.Bool.{leb-true, leb-false, ltb-true, and_parts}
+use Rattle.std.specs.List.{AllByRecursion}
+use Rattle.std.proofs.lemmas.List.Sums.{sum_by-append, sum_by-take-le}
+use Rattle.std.proofs.lemmas.List.{length-map, take-map}
 use Rattle.layout.specs.Meaning.{Meaning, Lawful}
 use Rattle.model.specs.Bodies.{fresh, size}
-use Rattle.model.specs.Trains.{Obj, Car, Train, Trains, train_objects, objects, total, obj_size, words_of, words_in_use, cars_in_use, car_numbers, numbers, place, place_at, fits, with_object, opened, lowest_free, last_cars, arrival, arrival_by, most_trains, car_words}
-use Rattle.model.specs.Claims.{Wish, Claim, Carried, claims}
+use Rattle.model.specs.Trains.{Obj, Car, Train, Trains, train_objects, obj_size, words_of, words_in_use, cars_in_use, car_numbers, numbers, place, place_at, fits, with_object, opened, lowest_free, last_cars, arrival, most_trains, car_words}
+use Rattle.model.specs.Claims.{Wish, Claim, claims, Taken}
 use Rattle.model.specs.Step.{claimed, copied_of, place_all, trim}
 use Rattle.model.specs.Space.{Model, carried}
 use Rattle.model.specs.Laws.{moment, FreeCar}
-use Rattle.model.specs.Sound.{All, Sized, Filled, AllFilled, Standing}
-use Rattle.model.proofs.Totals.{total-++, claims-total, place_all-total}
-use Rattle.model.proofs.Alls.{claims_all, claimed_all_take}
+use Rattle.model.specs.Sound.{Sized, Filled, HasCars}
+use Rattle.model.proofs.Totals.{claims-total, place_all-total, sums}
+use Rattle.model.proofs.Alls.{claims_all, claimed_all_take, all_take}
 use Rattle.model.proofs.Distinct.{lowest_unused}
 
 -- Cars stay filled.
@@ -28,7 +31,7 @@ pub place_stands : (n : ℕ) (o : Obj) (t : Train) → 1 ≤ length (place n o t
 place_stands n o [] = omega arith
 place_stands n o (c ∷ []) = go (fits c o)
   where
-    go : (b : Bool) → 1 ≤ length {A = Car} (elim b [ true ↦ with_object o c ∷ [] | false ↦ c ∷ opened n o ∷ [] ])
+    go : (b : Bool) → 1 ≤ length {A = Car} (cond b (with_object o c ∷ []) (c ∷ opened n o ∷ []))
     go true = omega arith
     go false = omega arith
 place_stands n o (c ∷ d ∷ cs) = omega arith
@@ -37,53 +40,47 @@ pub filled_place : (n : ℕ) (o : Obj) (t : Train) → Sized o → Filled t → 
 filled_place n o [] s p = (omega arith, omega arith)
 filled_place n o (c ∷ []) s p = go (fits c o) refl
   where
-    go : (b : Bool) → fits c o ≡ b → Filled (elim b [ true ↦ with_object o c ∷ [] | false ↦ c ∷ opened n o ∷ [] ])
+    go : (b : Bool) → fits c o ≡ b → Filled (cond b (with_object o c ∷ []) (c ∷ opened n o ∷ []))
     go true e =
         let h : words_of c.objects + obj_size o ≤ car_words = leb-true (words_of c.objects + obj_size o) car_words e in
-        let w = total-++ obj_size c.objects (o ∷ []) in
+        let w = sum_by-append obj_size c.objects (o ∷ []) in
         (omega arith, omega arith)
     go false e =
         let h : car_words < words_of c.objects + obj_size o = leb-false (words_of c.objects + obj_size o) car_words e in
         (omega arith, p.1, (omega arith, omega arith))
 filled_place n o (c ∷ d ∷ cs) s p = filled_cons c (place n o (d ∷ cs)) (place_stands n o (d ∷ cs)) p.0 p.1 (filled_place n o (d ∷ cs) s p.2)
 
-pub filled_place_at : (k n : ℕ) (o : Obj) (ts : Trains) → Sized o → AllFilled ts → AllFilled (place_at k n o ts)
+pub filled_place_at : (k n : ℕ) (o : Obj) (ts : Trains) → Sized o → AllByRecursion Filled ts → AllByRecursion Filled (place_at k n o ts)
 filled_place_at k n o [] s p = (filled_place n o [] s tt, tt)
 filled_place_at zero n o (t ∷ ts) s p = (filled_place n o t s p.0, p.1)
 filled_place_at (suc k) n o (t ∷ ts) s p = (p.0, filled_place_at k n o ts s p.1)
 
-pub filled_place_all : (busy : List ℕ) (row : List Claim) (ts : Trains) → All Sized (claimed row) → AllFilled ts → AllFilled (place_all busy row ts)
+pub filled_place_all : (busy : List ℕ) (row : List Claim) (ts : Trains) → AllByRecursion Sized (claimed row) → AllByRecursion Filled ts → AllByRecursion Filled (place_all busy row ts)
 filled_place_all busy [] ts s p = p
 filled_place_all busy (c ∷ row) ts s p =
     let n = lowest_free (busy ++ numbers ts) in
     filled_place_all busy row (place_at c.rank n c.object ts) s.1 (filled_place_at c.rank n c.object ts s.0 p)
 
-pub filled_trim : (ts : Trains) → AllFilled ts → AllFilled (trim ts)
+pub filled_trim : (ts : Trains) → AllByRecursion Filled ts → AllByRecursion Filled (trim ts)
 filled_trim [] p = p
 filled_trim ([] ∷ ts) p = p.1
 filled_trim ((c ∷ cs) ∷ ts) p = p
 
 -- Trains have cars.
 
-pub standing_place_at : (k n : ℕ) (o : Obj) (ts : Trains) → Standing ts → Standing (place_at k n o ts)
+pub standing_place_at : (k n : ℕ) (o : Obj) (ts : Trains) → AllByRecursion HasCars ts → AllByRecursion HasCars (place_at k n o ts)
 standing_place_at k n o [] s = (place_stands n o [], tt)
 standing_place_at zero n o (t ∷ ts) s = (place_stands n o t, s.1)
 standing_place_at (suc k) n o (t ∷ ts) s = (s.0, standing_place_at k n o ts s.1)
 
-pub standing_place_all : (busy : List ℕ) (row : List Claim) (ts : Trains) → Standing ts → Standing (place_all busy row ts)
-standing_place_all busy [] ts s = s
-standing_place_all busy (c ∷ row) ts s =
-    let n = lowest_free (busy ++ numbers ts) in
-    standing_place_all busy row (place_at c.rank n c.object ts) (standing_place_at c.rank n c.object ts s)
-
 -- only the first train may have been without cars
-pub standing_trim_all : (busy : List ℕ) (row : List Claim) (cs : Train) (ts : Trains) → Standing ts → Standing (trim (place_all busy row (cs ∷ ts)))
+pub standing_trim_all : (busy : List ℕ) (row : List Claim) (cs : Train) (ts : Trains) → AllByRecursion HasCars ts → AllByRecursion HasCars (trim (place_all busy row (cs ∷ ts)))
 standing_trim_all busy [] [] ts s = s
 standing_trim_all busy [] (c ∷ cs) ts s = (omega arith, s)
 standing_trim_all busy (c ∷ row) cs ts s = go c.rank (λ ds us. standing_trim_all busy row ds us)
   where
-    go : (k : ℕ) → ((ds : Train) (us : Trains) → Standing us → Standing (trim (place_all busy row (ds ∷ us))))
-        → Standing (trim (place_all busy row (place_at k (lowest_free (busy ++ numbers (cs ∷ ts))) c.object (cs ∷ ts))))
+    go : (k : ℕ) → ((ds : Train) (us : Trains) → AllByRecursion HasCars us → AllByRecursion HasCars (trim (place_all busy row (ds ∷ us))))
+        → AllByRecursion HasCars (trim (place_all busy row (place_at k (lowest_free (busy ++ numbers (cs ∷ ts))) c.object (cs ∷ ts))))
     go zero more = more (place (lowest_free (busy ++ numbers (cs ∷ ts))) c.object cs) ts s
     go (suc k) more =
         let n = lowest_free (busy ++ numbers (cs ∷ ts)) in
@@ -107,13 +104,7 @@ pub length-place_at : (k n : ℕ) (o : Obj) (ts : Trains) → k < most_trains �
 length-place_at k n o ts h l = (more_trains k n o ts, trains_up_to most_trains k n o ts h l)
 
 abbrev pub RanksBelow : List Claim → Type 0
-RanksBelow [] = Unit {0}
-RanksBelow (c ∷ row) = (c.rank < most_trains) × RanksBelow row
-
-pub ranks_take : (n : ℕ) (row : List Claim) → RanksBelow row → RanksBelow (take n row)
-ranks_take zero row r = tt
-ranks_take (suc n) [] r = tt
-ranks_take (suc n) (c ∷ row) r = (r.0, ranks_take n row r.1)
+RanksBelow row = AllByRecursion (λ c. c.rank < most_trains) row
 
 pub length-place_all : (busy : List ℕ) (row : List Claim) (ts : Trains) → RanksBelow row → length ts ≤ most_trains
     → (length ts ≤ length (place_all busy row ts)) × (length (place_all busy row ts) ≤ most_trains)
@@ -135,7 +126,7 @@ arrival_below (t ∷ []) l = (omega arith, omega arith, λ h. omega arith)
 arrival_below (t ∷ u ∷ ts) l = go (ltb (length (t ∷ u ∷ ts)) most_trains && leb 4 (last_cars (t ∷ u ∷ ts))) refl
   where
     go : (b : Bool) → (ltb (length (t ∷ u ∷ ts)) most_trains && leb 4 (last_cars (t ∷ u ∷ ts))) ≡ b
-        → (arrival_by b (length (t ∷ u ∷ ts)) < most_trains) × (arrival_by b (length (t ∷ u ∷ ts)) ≤ length (t ∷ u ∷ ts)) × (1 ≤ length (t ∷ u ∷ ts) → 1 ≤ arrival_by b (length (t ∷ u ∷ ts)))
+        → (cond b (length (t ∷ u ∷ ts)) (pred (length (t ∷ u ∷ ts))) < most_trains) × (cond b (length (t ∷ u ∷ ts)) (pred (length (t ∷ u ∷ ts))) ≤ length (t ∷ u ∷ ts)) × (1 ≤ length (t ∷ u ∷ ts) → 1 ≤ cond b (length (t ∷ u ∷ ts)) (pred (length (t ∷ u ∷ ts))))
     go true e =
         let p = and_parts (ltb (length (t ∷ u ∷ ts)) most_trains) (leb 4 (last_cars (t ∷ u ∷ ts))) e in
         (ltb-true (length (t ∷ u ∷ ts)) most_trains p.0, omega arith, λ h. h)
@@ -143,25 +134,21 @@ arrival_below (t ∷ u ∷ ts) l = go (ltb (length (t ∷ u ∷ ts)) most_trains
 
 -- How many cars there are.
 
-train_by_words : (t : Train) → Filled t → 65 * length t ≤ words_of (train_objects t) + 65
+pub train_by_words : (t : Train) → Filled t → 65 * length t ≤ words_of (train_objects t) + 64
 train_by_words [] p = omega arith
-train_by_words (c ∷ []) p = omega arith
-train_by_words (c ∷ d ∷ cs) p = omega (arith, p.0, total-++ obj_size c.objects (train_objects (d ∷ cs)), train_by_words (d ∷ cs) p.2)
+train_by_words (c ∷ []) p = omega (arith, sums, p.0)
+train_by_words (c ∷ d ∷ cs) p = omega (arith, sums, p.0, train_by_words (d ∷ cs) p.2)
 
-pub cars_by_words : (ts : Trains) → AllFilled ts → 65 * cars_in_use ts ≤ words_in_use ts + 65 * length ts
+pub cars_by_words : (ts : Trains) → AllByRecursion Filled ts → 65 * cars_in_use ts ≤ words_in_use ts + 65 * length ts
 cars_by_words [] p = omega arith
-cars_by_words (t ∷ ts) p = omega (arith, total-++ obj_size (train_objects t) (objects ts), train_by_words t p.0, cars_by_words ts p.1)
+cars_by_words (t ∷ ts) p = omega (arith, sums, train_by_words t p.0, cars_by_words ts p.1)
 
-pub few_cars : (ts : Trains) → AllFilled ts → words_in_use ts ≤ 3072 → length ts ≤ 8 → cars_in_use ts ≤ 55
+pub few_cars : (ts : Trains) → AllByRecursion Filled ts → words_in_use ts ≤ 3072 → length ts ≤ 8 → cars_in_use ts ≤ 55
 few_cars ts p w l = omega (arith, cars_by_words ts p)
-
-length-car_numbers : (t : Train) → length (car_numbers t) ≡ length t
-length-car_numbers [] = refl
-length-car_numbers (c ∷ cs) = omega (arith, length-car_numbers cs)
 
 pub length-numbers : (ts : Trains) → length (numbers ts) ≡ cars_in_use ts
 length-numbers [] = refl
-length-numbers (t ∷ ts) = omega (arith, length-append (car_numbers t) (numbers ts), length-car_numbers t, length-numbers ts)
+length-numbers (t ∷ ts) = omega (arith, sums, length-append (car_numbers t) (numbers ts), length-map t (λ (c : Car). c.number), length-numbers ts)
 
 pub free_car : (ts : Trains) → cars_in_use ts ≤ 57 → FreeCar ts
 free_car ts h =
@@ -170,42 +157,34 @@ free_car ts h =
 
 -- A step copies no more than a car's words, and has a free car at each moment.
 
-pub copied_few : (f : Car) (ws : List Wish) → words_of f.objects ≤ 128 → copied_of (claims ws f.objects).row ≤ 128
+pub copied_few : (f : Car) (ws : List Wish) → words_of f.objects ≤ 128 → copied_of (claims ws f.objects).taken ≤ 128
 copied_few f ws h = omega (arith, claims-total obj_size ws f.objects)
 
-pub total-take : (g : Obj → ℕ) (n : ℕ) (row : List Claim) → total g (claimed (take n row)) ≤ total g (claimed row)
-total-take g zero row = omega arith
-total-take g (suc n) [] = omega arith
-total-take g (suc n) (c ∷ row) = omega (arith, total-take g n row)
+pub total-take : (g : Obj → ℕ) (n : ℕ) (row : List Claim) → sum_by g (claimed (take n row)) ≤ sum_by g (claimed row)
+total-take g n row = omega (arith, ap (sum_by g) (take-map (λ (c : Claim). c.object) n row), sum_by-take-le g (claimed row) n)
 
 -- the cars while a row is placed, the first car not counted
 pub few_placed : (busy : List ℕ) (row : List Claim) (f : Car) (cs : Train) (ts : Trains)
-    → AllFilled ((f ∷ cs) ∷ ts) → words_in_use ((f ∷ cs) ∷ ts) ≤ 3072 → length ((f ∷ cs) ∷ ts) ≤ 8
-    → All Sized (claimed row) → RanksBelow row → words_of (claimed row) ≤ words_of f.objects
+    → AllByRecursion Filled ((f ∷ cs) ∷ ts) → words_in_use ((f ∷ cs) ∷ ts) ≤ 3072 → length ((f ∷ cs) ∷ ts) ≤ 8
+    → AllByRecursion Sized (claimed row) → RanksBelow row → words_of (claimed row) ≤ words_of f.objects
     → cars_in_use (place_all busy row (cs ∷ ts)) ≤ 55
 few_placed busy row f cs ts p w l s r u =
     few_cars (place_all busy row (cs ∷ ts))
     (filled_place_all busy row (cs ∷ ts) s (filled_tail f cs p.0, p.1))
-    (omega (
-      arith,
-      place_all-total obj_size busy row (cs ∷ ts),
-      total-++ obj_size (f.objects ++ train_objects cs) (objects ts),
-      total-++ obj_size f.objects (train_objects cs),
-      total-++ obj_size (train_objects cs) (objects ts),
-    ))
+    (omega (arith, sums, place_all-total obj_size busy row (cs ∷ ts)))
     (length-place_all busy row (cs ∷ ts) r l).1
 
 pub free_at_moment : (f : Car) (cs : Train) (ts : Trains) (m : Model)
-    → AllFilled ((f ∷ cs) ∷ ts) → words_in_use ((f ∷ cs) ∷ ts) ≤ 3072 → length ((f ∷ cs) ∷ ts) ≤ 8
-    → All Sized f.objects → RanksBelow (carried f cs ts m).row
+    → AllByRecursion Filled ((f ∷ cs) ∷ ts) → words_in_use ((f ∷ cs) ∷ ts) ≤ 3072 → length ((f ∷ cs) ∷ ts) ≤ 8
+    → AllByRecursion Sized f.objects → RanksBelow (carried f cs ts m).taken
     → (n : ℕ) → FreeCar (moment n m ((f ∷ cs) ∷ ts))
 free_at_moment f cs ts m p w l s r n = go (carried f cs ts m) (claims_all Sized _ f.objects s).0 r (claims-total obj_size _ f.objects)
   where
-    go : (c : Carried) → All Sized (claimed c.row) → RanksBelow c.row → total obj_size (claimed c.row) + total obj_size c.left ≡ total obj_size f.objects
-        → FreeCar ((f ∷ []) ∷ place_all (f.number ∷ []) (take n c.row) (cs ∷ ts))
+    go : (c : Taken Claim) → AllByRecursion Sized (claimed c.taken) → RanksBelow c.taken → sum_by obj_size (claimed c.taken) + sum_by obj_size c.left ≡ sum_by obj_size f.objects
+        → FreeCar ((f ∷ []) ∷ place_all (f.number ∷ []) (take n c.taken) (cs ∷ ts))
     go c a b e =
-        let k = few_placed (f.number ∷ []) (take n c.row) f cs ts p w l (claimed_all_take Sized n c.row a) (ranks_take n c.row b) (omega (arith, total-take obj_size n c.row)) in
-        free_car ((f ∷ []) ∷ place_all (f.number ∷ []) (take n c.row) (cs ∷ ts)) (omega (arith, k))
+        let k = few_placed (f.number ∷ []) (take n c.taken) f cs ts p w l (claimed_all_take Sized n c.taken a) (all_take _ n c.taken b) (omega (arith, total-take obj_size n c.taken)) in
+        free_car ((f ∷ []) ∷ place_all (f.number ∷ []) (take n c.taken) (cs ∷ ts)) (omega (arith, sums, k))
 
 -- A new object has from 2 to 64 words.
 

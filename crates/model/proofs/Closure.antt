@@ -1,16 +1,17 @@
 -- Carrying is closed: what a claimed object or a wish holds is not left in the car.
-use Rattle.std.proofs.Common.{◌≡◌, ℕ, zero, suc, ◌+◌, ◌≤◌, Bool, true, false, cond, eqb, ◌⊎◌, List, [], ◌∷◌, ◌++◌, length, get_or, Some, None, Option, sym, refl, ap, ◌∙◌, subst, inl, inr, arith, length-append}
+use Rattle.std.proofs.Common.{◌==◌, ◌≡◌, ℕ, zero, suc, ◌+◌, ◌≤◌, Bool, true, false, cond, eqb, ◌⊎◌, List, [], ◌∷◌, ◌++◌, length, get_or, Some, None, Option, sym, refl, ap, subst, inl, inr, arith, length-append, not, sum_by}
 use Rattle.std.proofs.lemmas.Bool.{ne_eqb, eq-eqb}
-use Rattle.model.specs.Trains.{Obj, Train, Trains, train_objects, objects, total, times, is, one_if}
-use Rattle.model.specs.Claims.{sort_out, take_out, visit, close, claim, Wish, Claim, all_to, claims, ref_wishes, object_wishes, train_wishes, trains_wishes}
-use Rattle.model.specs.Step.{claimed, out_of, is_zero}
-use Rattle.model.proofs.Totals.{take_out-total, visit-total, close-total, claim-total, claims-total}
-use Rattle.model.specs.Sound.{All, Points}
+use Rattle.std.specs.List.{AllByRecursion}
+use Rattle.model.specs.Trains.{Obj, Train, Trains, train_objects, objects, times}
+use Rattle.model.specs.Claims.{take_out, visit, close, claim, Wish, all_to, claims, ref_wishes, object_wishes, train_wishes, trains_wishes}
+use Rattle.model.specs.Step.{claimed, out_of}
+use Rattle.model.proofs.Totals.{take_out-total, visit-total, close-total, claim-total, claims-total, is, one_if, sums, claimed_row}
+use Rattle.model.specs.Sound.{Points}
 use Rattle.model.proofs.Alls.{all_++, all_left, all_right}
 
-pub length-total : (os : List Obj) → total (λ o. 1) os ≡ length os
+pub length-total : (os : List Obj) → sum_by (λ o. 1) os ≡ length os
 length-total [] = refl
-length-total (o ∷ os) = omega (arith, length-total os)
+length-total (o ∷ os) = omega (arith, sums, length-total os)
 
 pub is_self : (x : ℕ) (o : Obj) → x ≡ o.id → is x o ≡ 1
 is_self x o e = ap one_if (eq-eqb x o.id e)
@@ -20,9 +21,9 @@ pub take_out_none : (x : ℕ) (os : List Obj) → times x (take_out x os).left �
 take_out_none x [] = refl
 take_out_none x (o ∷ os) = go (take_out_none x os) (eqb x o.id) refl
   where
-    go : times x (take_out x os).left ≡ 0 → (b : Bool) → eqb x o.id ≡ b → times x (sort_out b o (take_out x os)).left ≡ 0
+    go : times x (take_out x os).left ≡ 0 → (b : Bool) → eqb x o.id ≡ b → times x (cond (not b) (o ∷ (take_out x os).left) (take_out x os).left) ≡ 0
     go h true e = h
-    go h false e = let z : is x o ≡ 0 = ap one_if e in omega (arith, z, h)
+    go h false e = let z : is x o ≡ 0 = ap one_if e in omega (arith, sums, z, h)
 
 visit_less : (rs : List (Option ℕ)) (left : List Obj) (y : ℕ) → times y (visit rs left).left ≤ times y left
 visit_less rs left y = omega (arith, visit-total (is y) rs left)
@@ -47,138 +48,105 @@ visit_none (Some x ∷ rs) left (suc i) y e = visit_none rs (take_out x left).le
 abbrev pub Done : List Obj → Obj → Type 0
 Done left o = Points (λ y. times y left ≡ 0) o
 
-pub done_less : (left less : List Obj) → ((y : ℕ) → times y less ≤ times y left) → (os : List Obj) → All (Done left) os → All (Done less) os
+pub done_less : (left less : List Obj) → ((y : ℕ) → times y less ≤ times y left) → (os : List Obj) → AllByRecursion (Done left) os → AllByRecursion (Done less) os
 done_less left less h [] d = tt
 done_less left less h (o ∷ os) d = ((λ i y e. omega (arith, h y, d.0 i y e)), done_less left less h os d.1)
 
 pub close_done : (n : ℕ) (q left : List Obj) → length q + length left ≤ n
-    → All (Done (close n q left).left) q × All (Done (close n q left).left) (close n q left).objs
+    → AllByRecursion (Done (close n q left).left) q × AllByRecursion (Done (close n q left).left) (close n q left).taken
 close_done zero [] left h = (tt, tt)
 close_done zero (o ∷ q) left h = absurd (omega (arith, h))
 close_done (suc n) [] left h = (tt, tt)
 close_done (suc n) (o ∷ q) left h =
     let t = visit o.body.refs left in
-    let c = close n (q ++ t.objs) t.left in
-    let fewer : length (q ++ t.objs) + length t.left ≤ n =
-    simp length-append (omega (arith, h, visit-total (λ o. 1) o.body.refs left, length-total t.objs, length-total t.left, length-total left)) in
-    let rest = close_done n (q ++ t.objs) t.left fewer in
-    let here : Done c.left o = λ i y e. omega (arith, visit_none o.body.refs left i y e, close_less n (q ++ t.objs) t.left y) in
-    ((here, all_left _ q t.objs rest.0), all_++ _ t.objs c.objs (all_right _ q t.objs rest.0) rest.1)
+    let c = close n (q ++ t.taken) t.left in
+    let fewer : length (q ++ t.taken) + length t.left ≤ n =
+    simp length-append (omega (arith, h, visit-total (λ o. 1) o.body.refs left, length-total t.taken, length-total t.left, length-total left)) in
+    let rest = close_done n (q ++ t.taken) t.left fewer in
+    let here : Done c.left o = λ i y e. omega (arith, visit_none o.body.refs left i y e, close_less n (q ++ t.taken) t.left y) in
+    ((here, all_left _ q t.taken rest.0), all_++ _ t.taken c.taken (all_right _ q t.taken rest.0) rest.1)
 
 pub claim_none : (x : ℕ) (left : List Obj) → times x (claim x left).left ≡ 0
 claim_none x left =
     let t = take_out x left in
-    omega (arith, take_out_none x left, close_less (length left) t.objs t.left x)
+    omega (arith, take_out_none x left, close_less (length left) t.taken t.left x)
 
-pub claim_done : (x : ℕ) (left : List Obj) → All (Done (claim x left).left) (claim x left).objs
+pub claim_done : (x : ℕ) (left : List Obj) → AllByRecursion (Done (claim x left).left) (claim x left).taken
 claim_done x left =
     let t = take_out x left in
-    let h : length t.objs + length t.left ≤ length left =
-    omega (arith, take_out-total (λ o. 1) x left, length-total t.objs, length-total t.left, length-total left) in
-    let d = close_done (length left) t.objs t.left h in
-    all_++ _ t.objs (close (length left) t.objs t.left).objs d.0 d.1
+    let h : length t.taken + length t.left ≤ length left =
+    omega (arith, take_out-total (λ o. 1) x left, length-total t.taken, length-total t.left, length-total left) in
+    let d = close_done (length left) t.taken t.left h in
+    all_++ _ t.taken (close (length left) t.taken t.left).taken d.0 d.1
 
-pub claimed_of_++ : (xs ys : List Claim) → claimed (xs ++ ys) ≡ claimed xs ++ claimed ys
-claimed_of_++ [] ys = refl
-claimed_of_++ (c ∷ xs) ys = ap (λ os. c.object ∷ os) (claimed_of_++ xs ys)
-
-pub claimed-all_to : (k : ℕ) (os : List Obj) → claimed (all_to k os) ≡ os
-claimed-all_to k [] = refl
-claimed-all_to k (o ∷ os) = ap (λ ps. o ∷ ps) (claimed-all_to k os)
-
--- the objects claimed for one wish, then those for the others
-pub claimed_row : (k : ℕ) (os : List Obj) (row : List Claim) → claimed (all_to k os ++ row) ≡ os ++ claimed row
-claimed_row k os row = claimed_of_++ (all_to k os) row ∙ ap (λ ps. ps ++ claimed row) (claimed-all_to k os)
-
-pub claims_done : (ws : List Wish) (left : List Obj) → All (Done (claims ws left).left) (claimed (claims ws left).row)
+pub claims_done : (ws : List Wish) (left : List Obj) → AllByRecursion (Done (claims ws left).left) (claimed (claims ws left).taken)
 claims_done [] left = tt
 claims_done (w ∷ ws) left =
     let t = claim w.who left in
     let c = claims ws t.left in
-    subst (All (Done c.left)) (sym (claimed_row w.rank t.objs c.row))
-    (all_++ _ t.objs (claimed c.row) (done_less t.left c.left (claims_less ws t.left) t.objs (claim_done w.who left)) (claims_done ws t.left))
-
-abbrev pub Each : (Wish → Type 0) → List Wish → Type 0
-Each P [] = Unit {0}
-Each P (w ∷ ws) = P w × Each P ws
-
-pub each_++ : (P : Wish → Type 0) (vs ws : List Wish) → Each P vs → Each P ws → Each P (vs ++ ws)
-each_++ P [] ws a b = b
-each_++ P (v ∷ vs) ws a b = (a.0, each_++ P vs ws a.1 b)
-
-pub each_left : (P : Wish → Type 0) (vs ws : List Wish) → Each P (vs ++ ws) → Each P vs
-each_left P [] ws a = tt
-each_left P (v ∷ vs) ws a = (a.0, each_left P vs ws a.1)
-
-pub each_right : (P : Wish → Type 0) (vs ws : List Wish) → Each P (vs ++ ws) → Each P ws
-each_right P [] ws a = a
-each_right P (v ∷ vs) ws a = each_right P vs ws a.1
+    subst (AllByRecursion (Done c.left)) (sym (claimed_row w.rank t.taken c.taken))
+    (all_++ _ t.taken (claimed c.taken) (done_less t.left c.left (claims_less ws t.left) t.taken (claim_done w.who left)) (claims_done ws t.left))
 
 -- no object that was wished is left
-pub claims_none : (ws : List Wish) (left : List Obj) → Each (λ w. times w.who (claims ws left).left ≡ 0) ws
+pub claims_none : (ws : List Wish) (left : List Obj) → AllByRecursion (λ w. times w.who (claims ws left).left ≡ 0) ws
 claims_none [] left = tt
 claims_none (w ∷ ws) left =
     let t = claim w.who left in
     (omega (arith, claim_none w.who left, claims_less ws t.left w.who), claims_none ws t.left)
 
 -- from wishes back to the references that they stand for
-pub ref_each : (P : Wish → Type 0) (k : ℕ) (rs : List (Option ℕ)) → Each P (ref_wishes k rs) → (i x : ℕ) → get_or rs i None ≡ Some x → P (record { who = x; rank = k })
+pub ref_each : (P : Wish → Type 0) (k : ℕ) (rs : List (Option ℕ)) → AllByRecursion P (ref_wishes k rs) → (i x : ℕ) → get_or rs i None ≡ Some x → P (record { who = x; rank = k })
 ref_each P k [] a i x e = let z : ◌≡◌ {A = ℕ} 0 1 = cc in absurd (omega arith)
 ref_each P k (None ∷ rs) a zero x e = let z : ◌≡◌ {A = ℕ} 0 1 = cc in absurd (omega arith)
 ref_each P k (None ∷ rs) a (suc i) x e = ref_each P k rs a i x e
 ref_each P k (Some y ∷ rs) a zero x e = let q : y ≡ x = cc in subst (λ v. P (record { who = v; rank = k })) q a.0
 ref_each P k (Some y ∷ rs) a (suc i) x e = ref_each P k rs a.1 i x e
 
-pub object_each : (Q : ℕ → Type 0) (k : ℕ) (os : List Obj) → Each (λ w. Q w.who) (object_wishes k os) → All (Points Q) os
+pub object_each : (Q : ℕ → Type 0) (k : ℕ) (os : List Obj) → AllByRecursion (λ w. Q w.who) (object_wishes k os) → AllByRecursion (Points Q) os
 object_each Q k [] a = tt
 object_each Q k (o ∷ os) a =
     let P : Wish → Type 0 = λ w. Q w.who in
-    (ref_each P k o.body.refs (each_left P (ref_wishes k o.body.refs) (object_wishes k os) a), object_each Q k os (each_right P (ref_wishes k o.body.refs) (object_wishes k os) a))
+    (ref_each P k o.body.refs (all_left P (ref_wishes k o.body.refs) (object_wishes k os) a), object_each Q k os (all_right P (ref_wishes k o.body.refs) (object_wishes k os) a))
 
-pub train_each : (Q : ℕ → Type 0) (k : ℕ) (t : Train) → Each (λ w. Q w.who) (train_wishes k t) → All (Points Q) (train_objects t)
+pub train_each : (Q : ℕ → Type 0) (k : ℕ) (t : Train) → AllByRecursion (λ w. Q w.who) (train_wishes k t) → AllByRecursion (Points Q) (train_objects t)
 train_each Q k [] a = tt
 train_each Q k (c ∷ cs) a =
     let P : Wish → Type 0 = λ w. Q w.who in
-    all_++ (Points Q) c.objects (train_objects cs) (object_each Q k c.objects (each_left P (object_wishes k c.objects) (train_wishes k cs) a))
-    (train_each Q k cs (each_right P (object_wishes k c.objects) (train_wishes k cs) a))
+    all_++ (Points Q) c.objects (train_objects cs) (object_each Q k c.objects (all_left P (object_wishes k c.objects) (train_wishes k cs) a))
+    (train_each Q k cs (all_right P (object_wishes k c.objects) (train_wishes k cs) a))
 
-pub trains_each : (Q : ℕ → Type 0) (k : ℕ) (ts : Trains) → Each (λ w. Q w.who) (trains_wishes k ts) → All (Points Q) (objects ts)
+pub trains_each : (Q : ℕ → Type 0) (k : ℕ) (ts : Trains) → AllByRecursion (λ w. Q w.who) (trains_wishes k ts) → AllByRecursion (Points Q) (objects ts)
 trains_each Q k [] a = tt
 trains_each Q k (t ∷ ts) a =
     let P : Wish → Type 0 = λ w. Q w.who in
-    all_++ (Points Q) (train_objects t) (objects ts) (train_each Q k t (each_left P (train_wishes k t) (trains_wishes (k + 1) ts) a))
-    (trains_each Q (k + 1) ts (each_right P (train_wishes k t) (trains_wishes (k + 1) ts) a))
+    all_++ (Points Q) (train_objects t) (objects ts) (train_each Q k t (all_left P (train_wishes k t) (trains_wishes (k + 1) ts) a))
+    (trains_each Q (k + 1) ts (all_right P (train_wishes k t) (trains_wishes (k + 1) ts) a))
 
 -- some wish is for x
 abbrev pub Wished : ℕ → List Wish → Type 0
 Wished x [] = ⊥
 Wished x (w ∷ ws) = (w.who ≡ x) ⊎ Wished x ws
 
-pub wished_left : (x : ℕ) (vs ws : List Wish) → Wished x vs → Wished x (vs ++ ws)
-wished_left x [] ws h = absurd h
-wished_left x (v ∷ vs) ws (inl e) = inl e
-wished_left x (v ∷ vs) ws (inr h) = inr (wished_left x vs ws h)
-
 pub wished_right : (x : ℕ) (vs ws : List Wish) → Wished x ws → Wished x (vs ++ ws)
 wished_right x [] ws h = h
 wished_right x (v ∷ vs) ws h = inr (wished_right x vs ws h)
 
-pub above_counts : (k : ℕ) → 1 ≤ k → ◌≡◌ {A = ℕ} (cond (is_zero k) 0 1) 1
-above_counts k h = ap (λ b. cond b 0 1) (ne_eqb k 0 (λ e. omega arith))
+pub above_counts : (k : ℕ) → 1 ≤ k → ◌≡◌ {A = ℕ} (cond (not (k == 0)) 1 0) 1
+above_counts k h = ap (λ b. cond (not b) 1 0) (ne_eqb k 0 (λ e. omega arith))
 
 -- a wish of a rank above 0 for an object of the car has something leave the first train
-pub out_some : (vs ws : List Wish) (left : List Obj) (x : ℕ) → Each (λ w. 1 ≤ w.rank) vs → Wished x vs → 1 ≤ times x left → 1 ≤ out_of (claims (vs ++ ws) left).row
+pub out_some : (vs ws : List Wish) (left : List Obj) (x : ℕ) → AllByRecursion (λ w. 1 ≤ w.rank) vs → Wished x vs → 1 ≤ times x left → 1 ≤ out_of (claims (vs ++ ws) left).taken
 out_some [] ws left x a h l = absurd h
-out_some (v ∷ vs) ws left x a h l = go (out_some vs ws (claim v.who left).left x a.1) (claim v.who left).objs refl
+out_some (v ∷ vs) ws left x a h l = go (out_some vs ws (claim v.who left).left x a.1) (claim v.who left).taken refl
   where
-    go : (Wished x vs → 1 ≤ times x (claim v.who left).left → 1 ≤ out_of (claims (vs ++ ws) (claim v.who left).left).row) → (os : List Obj) → (claim v.who left).objs ≡ os → 1 ≤ out_of (all_to v.rank (claim v.who left).objs ++ (claims (vs ++ ws) (claim v.who left).left).row)
+    go : (Wished x vs → 1 ≤ times x (claim v.who left).left → 1 ≤ out_of (claims (vs ++ ws) (claim v.who left).left).taken) → (os : List Obj) → (claim v.who left).taken ≡ os → 1 ≤ out_of (all_to v.rank (claim v.who left).taken ++ (claims (vs ++ ws) (claim v.who left).left).taken)
     go more (o ∷ os) e =
-        let r = (claims (vs ++ ws) (claim v.who left).left).row in
+        let r = (claims (vs ++ ws) (claim v.who left).left).taken in
         subst (λ (ps : List Obj). 1 ≤ out_of (all_to v.rank ps ++ r)) (sym e)
-        (omega (arith, above_counts v.rank a.0))
+        (omega (arith, sums, above_counts v.rank a.0))
     go more [] e =
-        let r = (claims (vs ++ ws) (claim v.who left).left).row in
-        let none : total (is x) (claim v.who left).objs ≡ 0 = ap (total (is x)) e in
+        let r = (claims (vs ++ ws) (claim v.who left).left).taken in
+        let none : sum_by (is x) (claim v.who left).taken ≡ 0 = ap (sum_by (is x)) e in
         let same : 1 ≤ times x (claim v.who left).left = omega (arith, l, none, claim-total (is x) v.who left) in
         let later : Wished x vs = elim h [
           | inl q ↦ absurd (let z : times x (claim v.who left).left ≡ 0 = subst (λ y. times y (claim v.who left).left ≡ 0) q (claim_none v.who left) in omega arith)

@@ -1,8 +1,9 @@
 -- What a call on the roots' objects changes: it brings in only what a root holds or a reference of a root's object.
-use Rattle.std.proofs.Common.{◌≡◌, ℕ, ◌<◌, Bool, true, false, ◌&&◌, ltb, leb, length, get_or, Some, None, Option, refl, arith}
+use Rattle.std.proofs.Common.{subst, ◌∙◌, ◌≡◌, ℕ, ◌<◌, Bool, true, false, ◌&&◌, ltb, leb, length, get_or, Some, None, Option, refl, arith, option_map, ap}
 use Rattle.std.proofs.lemmas.Bool.{ltb-true}
+use Rattle.std.specs.Prelude.{find}
 use Rattle.model.specs.Calls.{Access, link, follow, drop, put, lift, get, words, same, Refusal, root, missing, buffer}
-use Rattle.model.specs.Bodies.{Body, Roots, held, is_root, Effect, leave, hold, point, store, Reply, Found, nobody, found, with_body, object_of, unless, on_object, lifted, store_lifted, reply_of}
+use Rattle.model.specs.Bodies.{Body, Roots, held, is_root, Effect, leave, hold, point, store, Reply, object_of, unless, on_object, lifted, store_lifted, reply_of}
 
 -- a root holds x, whose object has b inside
 pub record Held (find : ℕ → Option Body) (rs : Roots) (x : ℕ) (b : Body) : Type 0 where
@@ -32,28 +33,32 @@ module _ (find : ℕ → Option Body) (rs : Roots) where
   none_some : {A : Type 0} {y : A} → None ≡ Some y → ⊥
   none_some e = let z : ◌≡◌ {A = ℕ} 0 1 = cc in omega arith
 
-  with_body-is : (x : ℕ) (o : Option Body) (y : ℕ) (b : Body) → with_body x o ≡ found y b → (x ≡ y) × (o ≡ Some b)
-  with_body-is x None y b e = absurd (let z : ◌≡◌ {A = ℕ} 0 1 = cc in omega arith)
-  with_body-is x (Some c) y b e = (cc, cc)
+  object_of-is : (h : Option ℕ) (y : ℕ) (b : Body) → object_of find h ≡ Some (y, b) → (h ≡ Some y) × (find y ≡ Some b)
+  object_of-is None y b e = absurd (none_some e)
+  object_of-is (Some x) y b e = go (find x) refl e
+    where
+      go : (o : Option Body) → find x ≡ o → option_map {U = ℕ × Body} (λ c. (x, c)) o ≡ Some (y, b) → (Some x ≡ Some y) × (find y ≡ Some b)
+      go None q e = absurd (none_some e)
+      go (Some c) q e =
+          let s : (x, c) ≡ (y, b) = cc in
+          let i : x ≡ y = ap (λ (p : ℕ × Body). p.0) s in
+          let j : c ≡ b = ap (λ (p : ℕ × Body). p.1) s in
+          (ap Some i, subst (λ (z : ℕ). find z ≡ Some b) i (q ∙ ap Some j))
 
-  object_of-is : (h : Option ℕ) (y : ℕ) (b : Body) → object_of find h ≡ found y b → (h ≡ Some y) × (find y ≡ Some b)
-  object_of-is None y b e = absurd (let z : ◌≡◌ {A = ℕ} 0 1 = cc in omega arith)
-  object_of-is (Some x) y b e = let p = with_body-is x (find x) y b e in let q : x ≡ y = p.0 in (cc, rw q at p.1)
-
-  on_object_any : (P : Effect → Type 0) (ok : Bool) (f : Found) (k : ℕ → Body → Reply)
-      → P leave → ((x : ℕ) (b : Body) → f ≡ found x b → P (k x b).effect) → P (on_object ok f k).effect
+  on_object_any : (P : Effect → Type 0) (ok : Bool) (f : Option (ℕ × Body)) (k : ℕ → Body → Reply)
+      → P leave → ((x : ℕ) (b : Body) → f ≡ Some (x, b) → P (k x b).effect) → P (on_object ok f k).effect
   on_object_any P false f k l g = l
-  on_object_any P true nobody k l g = l
-  on_object_any P true (found x b) k l g = g x b refl
+  on_object_any P true None k l g = l
+  on_object_any P true (Some p) k l g = g p.0 p.1 refl
 
   unless_any : (P : Effect → Type 0) (ok : Bool) (n : Refusal) (r : Reply) → P leave → (ok ≡ true → P r.effect) → P (unless ok n r).effect
   unless_any P false n r l g = l
   unless_any P true n r l g = g refl
 
-  held_of : (r x : ℕ) (b : Body) → object_of find (held rs r) ≡ found x b → Held find rs x b
+  held_of : (r x : ℕ) (b : Body) → object_of find (held rs r) ≡ Some (x, b) → Held find rs x b
   held_of r x b e = let p = object_of-is (held rs r) x b e in record { at = r; is = p.0; has = p.1 }
 
-  word_of : (r w x : ℕ) (b : Body) → object_of find (held rs r) ≡ found x b → ltb w (length b.values) ≡ true → HasWord find rs x w
+  word_of : (r w x : ℕ) (b : Body) → object_of find (held rs r) ≡ Some (x, b) → ltb w (length b.values) ≡ true → HasWord find rs x w
   word_of r w x b e t = record { body = b; holds = held_of r x b e; inside = ltb-true w (length b.values) t }
 
   lifted_any : (Q : ℕ → Type 0) (x w : ℕ) (v : Option ℕ) → HasWord find rs x w → Brings find rs Q (store_lifted x w v).effect

@@ -1,30 +1,35 @@
--- Each call keeps the space sound.
-use Rattle.std.proofs.Common.{◌≡◌, ℕ, zero, suc, ◌+◌, ◌<◌, ◌≤◌, Bool, true, false, cond, eqb, List, [], ◌∷◌, ◌++◌, length, get_or, replicate, Some, None, Option, sym, refl, ap, ◌∙◌, subst, inl, inr, arith}
-use Rattle.std.proofs.lemmas.Bool.{ne_eqb, leb-true, ltb-false, cases_eq, cases_lt}
+-- AllByRecursion call keeps the space sound.
+use Rattle.std.proofs.Common.{◌≡◌, ℕ, zero, suc, ◌+◌, ◌<◌, ◌≤◌, Bool, true, false, cond, eqb, List, [], ◌∷◌, ◌++◌, length, get_or, replicate, Some, None, Option, sym, refl, ap, ◌∙◌, subst, inl, inr, arith, not, sum_by}
+use Rattle.std.proofs.lemmas.Bool.{ne_eqb, leb-true, ltb-false, cases_eq, cases_lt, eqb-true, not-false}
+use Rattle.std.specs.List.{AllByRecursion}
+use Rattle.std.specs.Prelude.{option_map, find}
+use Rattle.std.proofs.lemmas.List.Sums.{sum_by-append}
+use Rattle.std.proofs.lemmas.List.{length-map}
 use Rattle.layout.specs.Meaning.{Meaning, Lawful}
 use Rattle.remembered.specs.Meaning.{Meaning as Remembers}
-use Rattle.model.specs.Calls.{Call, make, access, step, tally, Access, History}
-use Rattle.model.specs.Bodies.{Body, held, fresh, size, with_ref, with_value, is_root, root_count, Effect, leave, hold, point, store, reply_of}
-use Rattle.model.specs.Trains.{Obj, Car, Train, Trains, train_objects, objects, total, words_of, words_in_use, obj_size, times, is, one_if, among, inside, alter, alter_object, place, place_at, arrival, numbers, lowest_free, capacity, most_trains}
+use Rattle.model.specs.Calls.{Call, make, access, step, tally, Access, History, Refusal, root, shape, full, refused, done}
+use Rattle.model.specs.Bodies.{Body, held, fresh, size, with_ref, with_value, is_root, root_count, Effect, leave, hold, point, store, reply_of, make_outcome, Outcome, outcome}
+use Rattle.model.specs.Trains.{Obj, Car, Train, Trains, train_objects, objects, words_of, words_in_use, obj_size, times, among, inside, alter, alter_object, place, place_at, arrival, numbers, lowest_free, capacity, most_trains, alter_train}
 use Rattle.model.specs.Claims.{Wish, Claim, claims, ref_wishes, train_wishes, trains_wishes}
-use Rattle.model.specs.Step.{Mark, first_to, outside, mark_wishes, wishes, place_all, trim, out_of, mark_after, guard}
-use Rattle.model.specs.Space.{Model, opening, all_objects, space_make, made_by, has_room, space_with, carried, trains_after, step_by, step_on, act, space_of}
-use Rattle.model.proofs.Totals.{total-++, claims-total, place-total, place_at-total, place_all-total, trim-objects}
-use Rattle.model.specs.Sound.{All, Points, Sized, first_objects, Marked, SoundAt, Sound}
-use Rattle.model.proofs.Alls.{all_++, all_left, all_right, claims_all, place_at_all, place_all_all}
+use Rattle.model.specs.Step.{first_to, outside, mark_wishes, wishes, place_all, trim, out_of, mark_after, guard}
+use Rattle.model.specs.Space.{Model, opening, all_objects, made_by, has_room, space_with, carried, trains_after, step_by, step_on, act, space_of}
+use Rattle.model.proofs.Totals.{claims-total, place-total, place_at-total, place_all-total, trim-objects, is, one_if, sums}
+use Rattle.model.specs.Sound.{Points, Sized, first_objects, Marked, SoundAt, Sound}
+use Rattle.model.proofs.Alls.{all_++, all_left, all_right, claims_all, place_at_all, place_all_all, all_map, all_with}
 use Rattle.model.proofs.Cars.{filled_tail, filled_place_at, filled_place_all, filled_trim, standing_place_at, standing_trim_all, length-place_at, length-place_all, length-trim, arrival_below, fresh_sized}
-use Rattle.model.proofs.Closure.{is_self, Wished, Each, each_left, each_right, claims_none, claims_done, ref_each, train_each, trains_each, out_some}
+use Rattle.model.proofs.Closure.{is_self, Wished, claims_none, claims_done, ref_each, train_each, trains_each, out_some}
 use Rattle.model.proofs.Effects.{Brings, brings}
-use Rattle.model.proofs.Alters.{ref_size, value_size, objects-alter, first-alter, length-alter, alter-times, alter_all, alter-size, alter-words, all_filled_alter, standing_alter, set_either}
+use Rattle.model.proofs.Alters.{ref_size, value_size, objects-alter, first-alter, alter-times, alter_all, alter-size, alter-words, all_filled_alter, standing_alter, set_either}
 use Rattle.model.proofs.Outside.{first_none, first_some, Sends, outside_ranks, away, wishes_split, away_ranks, wishes_above, outside-away, claims_below, wishes_below}
 
-pub all_with : (P Q R : Obj → Type 0) → ((o : Obj) → P o → Q o → R o) → (os : List Obj) → All P os → All Q os → All R os
-all_with P Q R h [] a b = tt
-all_with P Q R h (o ∷ os) a b = (h o a.0 b.0, all_with P Q R h os a.1 b.1)
-
-pub all_map : (P Q : Obj → Type 0) → ((o : Obj) → P o → Q o) → (os : List Obj) → All P os → All Q os
-all_map P Q h [] a = tt
-all_map P Q h (o ∷ os) a = (h o a.0, all_map P Q h os a.1)
+-- a make is refused and leaves all as it was, or it is done
+pub make_cases : {S : Type 0} (P : Outcome S → Type 0) (root_ok admitted is_filled : Bool) (before after : S)
+    → ((n : Refusal) → P (outcome before (refused n))) → (admitted ≡ true → is_filled ≡ false → P (outcome after done))
+    → P (make_outcome root_ok admitted is_filled before after)
+make_cases P false b c s t stays made = stays root
+make_cases P true false c s t stays made = stays shape
+make_cases P true true true s t stays made = stays full
+make_cases P true true false s t stays made = made refl refl
 
 pub is_other : (x : ℕ) (o : Obj) → (x ≡ o.id → ⊥) → is x o ≡ 0
 is_other x o ne = ap one_if (ne_eqb x o.id ne)
@@ -36,21 +41,35 @@ is_few x o = go (eqb x o.id)
     go true = omega arith
     go false = omega arith
 
+-- each object lies among the objects that it is one of
+pub times_self : (os : List Obj) → AllByRecursion (λ o. 1 ≤ times o.id os) os
+times_self [] = tt
+times_self (o ∷ os) = (
+  omega (arith, sums, is_self o.id o refl),
+  all_map (λ p. 1 ≤ times p.id os) (λ p. 1 ≤ times p.id (o ∷ os)) (λ p h. omega (arith, sums, h)) os (times_self os),
+)
+
 -- an identity not yet given lies nowhere
-pub old_none : (n x : ℕ) (os : List Obj) → n ≤ x → All (λ o. o.id < n) os → times x os ≡ 0
+pub old_none : (n x : ℕ) (os : List Obj) → n ≤ x → AllByRecursion (λ o. o.id < n) os → times x os ≡ 0
 old_none n x [] h a = refl
-old_none n x (o ∷ os) h a = let k = a.0 in omega (arith, is_other x o (λ e. omega arith), old_none n x os h a.1)
+old_none n x (o ∷ os) h a = let k = a.0 in omega (arith, sums, is_other x o (λ e. omega arith), old_none n x os h a.1)
 
--- the body that is found is that of one of the objects
-pub inside_body : (R : Body → Type 0) (os : List Obj) (x : ℕ) (b : Body) → All (λ o. R o.body) os → inside os x ≡ Some b → R b
-inside_body R [] x b a e = let z : ◌≡◌ {A = ℕ} 0 1 = cc in absurd (omega arith)
-inside_body R (o ∷ os) x b a e = go (inside_body R os x b a.1) (eqb x o.id) e
+-- what is found is the body of one of the objects
+pub inside_all : (P : Obj → Type 0) (os : List Obj) (x : ℕ) (b : Body) → inside os x ≡ Some b → AllByRecursion P os → P (record { id = x; body = b })
+inside_all P [] x b e h = absurd (let z : ◌≡◌ {A = ℕ} 0 1 = cc in omega arith)
+inside_all P (o ∷ os) x b e h = go (λ q. inside_all P os x b q h.1) (eqb x o.id) refl e
   where
-    go : (inside os x ≡ Some b → R b) → (c : Bool) → ◌≡◌ {A = Option Body} (elim c [ true ↦ Some o.body | false ↦ inside os x ]) (Some b) → R b
-    go more true q = let same : o.body ≡ b = cc in subst R same a.0
-    go more false q = more q
+    go : (inside os x ≡ Some b → P (record { id = x; body = b })) → (t : Bool) → eqb x o.id ≡ t → option_map (λ p. p.body) (cond t (Some o) (find (λ p. eqb x p.id) os)) ≡ Some b → P (record { id = x; body = b })
+    go more true q e =
+        let i : o.id ≡ x = sym (eqb-true x o.id q) in
+        let j : o.body ≡ b = cc in
+        subst (λ (c : Body). P (record { id = x; body = c })) j (subst (λ (y : ℕ). P (record { id = y; body = o.body })) i h.0)
+    go more false q e = more e
 
-no_ref : (n i y : ℕ) → get_or (replicate {A = Option ℕ} n None) i None ≡ Some y → ⊥
+pub inside_body : (R : Body → Type 0) (os : List Obj) (x : ℕ) (b : Body) → AllByRecursion (λ o. R o.body) os → inside os x ≡ Some b → R b
+inside_body R os x b a e = inside_all (λ o. R o.body) os x b e a
+
+pub no_ref : (n i y : ℕ) → get_or (replicate {A = Option ℕ} n None) i None ≡ Some y → ⊥
 no_ref zero i y e = let z : ◌≡◌ {A = ℕ} 0 1 = cc in omega arith
 no_ref (suc n) zero y e = let z : ◌≡◌ {A = ℕ} 0 1 = cc in omega arith
 no_ref (suc n) (suc i) y e = no_ref n i y e
@@ -60,7 +79,7 @@ first-place_at : (k n : ℕ) (o : Obj) (t : Train) (ts : Trains) → 1 ≤ k →
 first-place_at zero n o t ts h = absurd (omega (arith, h))
 first-place_at (suc k) n o t ts h = refl
 
-mark_place : (w : Mark) (n : ℕ) (o : Obj) (ts : Trains) → length ts ≤ most_trains → Marked w ts → Marked w (place_at (arrival ts) n o ts)
+mark_place : (w : Wish) (n : ℕ) (o : Obj) (ts : Trains) → length ts ≤ most_trains → Marked w ts → Marked w (place_at (arrival ts) n o ts)
 mark_place w n o [] l m = absurd (omega (arith, m.lies))
 mark_place w n o (t ∷ ts) l m =
     let a = arrival_below (t ∷ ts) l in
@@ -113,11 +132,10 @@ module _ (M : Meaning) (law : Lawful M) where
         mark = λ w e. mark_place w n o m.trains s.few (s.mark w e);
       }
 
-  make_sound : (a b c : Bool) (k x y r : ℕ) (m : Model) → M.admits k x y ≡ b → has_room (fresh M k x y) m ≡ c → Sound m → Sound (space_make a b c (fresh M k x y) r m).state
-  make_sound false b c k x y r m p q s = s
-  make_sound true false c k x y r m p q s = s
-  make_sound true true false k x y r m p q s = s
-  make_sound true true true k x y r m p q s = made_sound k x y r m p q s
+  make_sound : (has : Remembers) (r k a b : ℕ) (m : Model) → Sound m → Sound (act M has (make r k a b) m).state
+  make_sound has r k a b m s =
+      make_cases (λ o. Sound o.state) (is_root r) (M.admits k a b) (not (has_room (fresh M k a b) m)) m (made_by (fresh M k a b) r m)
+      (λ n. s) (λ ok room. made_sound k a b r m ok (not-false (has_room (fresh M k a b) m) room) s)
 
   -- an object's inside changes, its references still hold what lies in a car
   alter_sound : (x : ℕ) (g : Body → Body) (m : Model) → ((b : Body) → size (g b) ≡ size b)
@@ -128,20 +146,20 @@ module _ (M : Meaning) (law : Lawful M) where
       let e = objects-alter x g m.trains in
       let same : (y : ℕ) → times y (objects (alter x g m.trains)) ≡ times y os = λ y. ap (times y) e ∙ alter-times x g y os in
       record {
-        old = subst (All (λ o. o.id < m.made)) (sym e) (alter_all x g _ _ (λ o h. h) os s.old);
+        old = subst (AllByRecursion (λ o. o.id < m.made)) (sym e) (alter_all x g _ _ (λ o h. h) os s.old);
         once = λ y. omega (arith, same y, s.once y);
-        sized = subst (All Sized) (sym e) (alter_all x g Sized Sized (λ o h. (omega (arith, h.0, alter-size x g keeps o), omega (arith, h.1, alter-size x g keeps o))) os s.sized);
+        sized = subst (AllByRecursion Sized) (sym e) (alter_all x g Sized Sized (λ o h. (omega (arith, h.0, alter-size x g keeps o), omega (arith, h.1, alter-size x g keeps o))) os s.sized);
         roots = λ r y h. omega (arith, same y, s.roots r y h);
-        refs = subst (All (Points (λ y. 1 ≤ times y (objects (alter x g m.trains))))) (sym e)
+        refs = subst (AllByRecursion (Points (λ y. 1 ≤ times y (objects (alter x g m.trains))))) (sym e)
             (alter_all x g (Points (λ y. 1 ≤ times y os)) _ (λ o h i y q. omega (arith, same y, points o h i y q)) os s.refs);
         room = omega (arith, ap words_of e, alter-words x g keeps os, s.room);
         filled = all_filled_alter x g keeps m.trains s.filled;
         standing = standing_alter x g m.trains s.standing;
-        few = omega (arith, length-alter x g m.trains, s.few);
+        few = omega (arith, length-map m.trains (alter_train x g), s.few);
         mark = λ w q. let k = s.mark w q in record {
           lies = omega (arith, k.lies, ap (times w.who) (first-alter x g m.trains), alter-times x g w.who (first_objects m.trains));
           above = k.above;
-          within = omega (arith, k.within, length-alter x g m.trains);
+          within = omega (arith, k.within, length-map m.trains (alter_train x g));
           below = k.below;
         };
       }
@@ -186,50 +204,42 @@ module _ (M : Meaning) (law : Lawful M) where
 
 -- what is lost, and what lies in cars after, was there before
 pub step_total : (w : Obj → ℕ) (f : Car) (cs : Train) (ts : Trains) (m : Model)
-    → total w (objects (trains_after f cs ts m)) + total w (carried f cs ts m).left ≡ total w (objects ((f ∷ cs) ∷ ts))
+    → sum_by w (objects (trains_after f cs ts m)) + sum_by w (carried f cs ts m).left ≡ sum_by w (objects ((f ∷ cs) ∷ ts))
 step_total w f cs ts m =
     let c = carried f cs ts m in
-    let R = place_all (f.number ∷ []) c.row (cs ∷ ts) in
-    omega (
-      arith,
-      ap (total w) (trim-objects R),
-      place_all-total w (f.number ∷ []) c.row (cs ∷ ts),
-      claims-total w (wishes m.roots m.mark f cs ts) f.objects,
-      total-++ w (f.objects ++ train_objects cs) (objects ts),
-      total-++ w f.objects (train_objects cs),
-      total-++ w (train_objects cs) (objects ts),
-    )
+    let R = place_all (f.number ∷ []) c.taken (cs ∷ ts) in
+    omega (arith, sums, ap (sum_by w) (trim-objects R), place_all-total w (f.number ∷ []) c.taken (cs ∷ ts), claims-total w (wishes m.roots m.mark f cs ts) f.objects)
 
 -- what holds of each object before holds of each after
-pub step_all : (P : Obj → Type 0) (f : Car) (cs : Train) (ts : Trains) (m : Model) → All P (objects ((f ∷ cs) ∷ ts)) → All P (objects (trains_after f cs ts m))
+pub step_all : (P : Obj → Type 0) (f : Car) (cs : Train) (ts : Trains) (m : Model) → AllByRecursion P (objects ((f ∷ cs) ∷ ts)) → AllByRecursion P (objects (trains_after f cs ts m))
 step_all P f cs ts m a =
     let c = carried f cs ts m in
-    let R = place_all (f.number ∷ []) c.row (cs ∷ ts) in
+    let R = place_all (f.number ∷ []) c.taken (cs ∷ ts) in
     let t = all_left P (f.objects ++ train_objects cs) (objects ts) a in
     let rest = all_++ P (train_objects cs) (objects ts) (all_right P f.objects (train_objects cs) t) (all_right P (f.objects ++ train_objects cs) (objects ts) a) in
-    subst (All P) (sym (trim-objects R))
-    (place_all_all P (f.number ∷ []) c.row (cs ∷ ts) rest (claims_all P (wishes m.roots m.mark f cs ts) f.objects (all_left P f.objects (train_objects cs) t)).0)
+    subst (AllByRecursion P) (sym (trim-objects R))
+    (place_all_all P (f.number ∷ []) c.taken (cs ∷ ts) rest (claims_all P (wishes m.roots m.mark f cs ts) f.objects (all_left P f.objects (train_objects cs) t)).0)
 
 -- no reference is overlooked: what a root or an object in a car holds is not lost
 module _ (f : Car) (cs : Train) (ts : Trains) (m : Model) where
-  wished_kept : Each (λ w. times w.who (carried f cs ts m).left ≡ 0) (wishes m.roots m.mark f cs ts)
+  wished_kept : AllByRecursion (λ w. times w.who (carried f cs ts m).left ≡ 0) (wishes m.roots m.mark f cs ts)
   wished_kept = claims_none (wishes m.roots m.mark f cs ts) f.objects
 
   pub roots_kept : (r x : ℕ) → held m.roots r ≡ Some x → times x (carried f cs ts m).left ≡ 0
   roots_kept = ref_each (λ w. times w.who (carried f cs ts m).left ≡ 0) (arrival ((f ∷ cs) ∷ ts)) m.roots
-      (each_left _ (ref_wishes (arrival ((f ∷ cs) ∷ ts)) m.roots) _ wished_kept)
+      (all_left _ (ref_wishes (arrival ((f ∷ cs) ∷ ts)) m.roots) _ wished_kept)
 
-  pub refs_kept : All (Points (λ y. times y (carried f cs ts m).left ≡ 0)) (objects (trains_after f cs ts m))
+  pub refs_kept : AllByRecursion (Points (λ y. times y (carried f cs ts m).left ≡ 0)) (objects (trains_after f cs ts m))
   refs_kept =
       let Q : ℕ → Type 0 = λ y. times y (carried f cs ts m).left ≡ 0 in
       let P : Wish → Type 0 = λ w. Q w.who in
-      let R = place_all (f.number ∷ []) (carried f cs ts m).row (cs ∷ ts) in
-      let k = each_right P (mark_wishes m.mark) _ (each_right P (ref_wishes (arrival ((f ∷ cs) ∷ ts)) m.roots) _ wished_kept) in
-      subst (All (Points Q)) (sym (trim-objects R))
-      (place_all_all (Points Q) (f.number ∷ []) (carried f cs ts m).row (cs ∷ ts)
+      let R = place_all (f.number ∷ []) (carried f cs ts m).taken (cs ∷ ts) in
+      let k = all_right P (mark_wishes m.mark) _ (all_right P (ref_wishes (arrival ((f ∷ cs) ∷ ts)) m.roots) _ wished_kept) in
+      subst (AllByRecursion (Points Q)) (sym (trim-objects R))
+      (place_all_all (Points Q) (f.number ∷ []) (carried f cs ts m).taken (cs ∷ ts)
       (all_++ (Points Q) (train_objects cs) (objects ts)
-      (train_each Q 0 cs (each_right P (trains_wishes 1 ts) (train_wishes 0 cs) k))
-      (trains_each Q 1 ts (each_left P (trains_wishes 1 ts) (train_wishes 0 cs) k)))
+      (train_each Q 0 cs (all_right P (trains_wishes 1 ts) (train_wishes 0 cs) k))
+      (trains_each Q 1 ts (all_left P (trains_wishes 1 ts) (train_wishes 0 cs) k)))
       (claims_done (wishes m.roots m.mark f cs ts) f.objects))
 
 -- the first train only grows while objects are placed
@@ -258,28 +268,28 @@ module _ (f : Car) (cs : Train) (ts : Trains) (m : Model) (s : SoundAt m.made m.
       → (1 ≤ times x (first_objects (trains_after f cs ts m))) × (length ((f ∷ cs) ∷ ts) ≤ length (trains_after f cs ts m))
   still_first x z h =
       let c = carried f cs ts m in
-      let R = place_all (f.number ∷ []) c.row (cs ∷ ts) in
+      let R = place_all (f.number ∷ []) c.taken (cs ∷ ts) in
       let below = claims_below (wishes m.roots m.mark f cs ts) f.objects (wishes_below m.roots m.mark f cs ts s.few s.mark) in
-      let g : 1 ≤ times x (first_objects R) = omega (arith, grows_place_all x (f.number ∷ []) c.row (cs ∷ ts), total-++ (is x) f.objects (train_objects cs)) in
+      let g : 1 ≤ times x (first_objects R) = omega (arith, sums, grows_place_all x (f.number ∷ []) c.taken (cs ∷ ts)) in
       let t = trim-first x R g in
-      (t.0, omega (arith, t.1, (length-place_all (f.number ∷ []) c.row (cs ∷ ts) below s.few).0))
+      (t.0, omega (arith, t.1, (length-place_all (f.number ∷ []) c.taken (cs ∷ ts) below s.few).0))
 
   -- what is wished from elsewhere leaves the first train if it lies in the first car
-  pub leaves : (x : ℕ) → Wished x (away m.roots m.mark f cs ts) → 1 ≤ times x f.objects → 1 ≤ out_of (carried f cs ts m).row
+  pub leaves : (x : ℕ) → Wished x (away m.roots m.mark f cs ts) → 1 ≤ times x f.objects → 1 ≤ out_of (carried f cs ts m).taken
   leaves x w l =
-      subst (λ ws. 1 ≤ out_of (claims ws f.objects).row) (sym (wishes_split m.roots m.mark f cs ts))
+      subst (λ ws. 1 ≤ out_of (claims ws f.objects).taken) (sym (wishes_split m.roots m.mark f cs ts))
       (out_some (away m.roots m.mark f cs ts) (train_wishes 0 cs) f.objects x
       (wishes_above ((f ∷ cs) ∷ ts) _ (away_ranks m.roots m.mark f cs ts s.few s.mark)) w l)
 
-  kept_mark : (w : Mark) → m.mark ≡ Some w → among w.who f.objects ≡ false → Marked w (trains_after f cs ts m)
+  kept_mark : (w : Wish) → m.mark ≡ Some w → among w.who f.objects ≡ false → Marked w (trains_after f cs ts m)
   kept_mark w e z =
       let k = s.mark w e in
       let none : times w.who f.objects ≡ 0 = omega (arith, ltb-false 0 (times w.who f.objects) z) in
       let t = still_first w.who none k.lies in
       record { lies = t.0; above = k.above; within = omega (arith, k.within, t.1); below = k.below }
 
-  new_mark : (w : Wish) → first_to (train_objects (f ∷ cs)) (outside m.roots ((f ∷ cs) ∷ ts) ts) ≡ Some w → out_of (carried f cs ts m).row ≡ 0
-      → Marked (record { who = w.who; rank = w.rank }) (trains_after f cs ts m)
+  new_mark : (w : Wish) → first_to (train_objects (f ∷ cs)) (outside m.roots ((f ∷ cs) ∷ ts) ts) ≡ Some w → out_of (carried f cs ts m).taken ≡ 0
+      → Marked w (trains_after f cs ts m)
   new_mark w e z =
       let first = first_some (λ v. Sends ((f ∷ cs) ∷ ts) v.rank) (train_objects (f ∷ cs)) (outside m.roots ((f ∷ cs) ∷ ts) ts) w e (outside_ranks m.roots (f ∷ cs) ts s.few) in
       let none : times w.who f.objects ≡ 0 =
@@ -291,28 +301,28 @@ module _ (f : Car) (cs : Train) (ts : Trains) (m : Model) (s : SoundAt m.made m.
       record { lies = t.0; above = first.2.0; within = omega (arith, first.2.1, t.1); below = first.2.2 }
 
   marks_after : (w : Wish) → first_to (train_objects (f ∷ cs)) (outside m.roots ((f ∷ cs) ∷ ts) ts) ≡ Some w
-      → (v : Mark) → guard (mark_after f.objects m.mark) (out_of (carried f cs ts m).row) w ≡ Some v → Marked v (trains_after f cs ts m)
+      → (v : Wish) → guard (mark_after f.objects m.mark) (out_of (carried f cs ts m).taken) w ≡ Some v → Marked v (trains_after f cs ts m)
   marks_after w e v q = go m.mark refl q
     where
-      fresh_mark : (n : ℕ) → out_of (carried f cs ts m).row ≡ n → guard None n w ≡ Some v → Marked v (trains_after f cs ts m)
-      fresh_mark zero z g = let same : record { who = w.who; rank = w.rank } ≡ v = cc in subst (λ u. Marked u (trains_after f cs ts m)) same (new_mark w e z)
+      fresh_mark : (n : ℕ) → out_of (carried f cs ts m).taken ≡ n → guard None n w ≡ Some v → Marked v (trains_after f cs ts m)
+      fresh_mark zero z g = let same : w ≡ v = cc in subst (λ u. Marked u (trains_after f cs ts m)) same (new_mark w e z)
       fresh_mark (suc n) z g = let y : ◌≡◌ {A = ℕ} 0 1 = cc in absurd (omega arith)
 
-      old_mark : (u : Mark) → m.mark ≡ Some u → (b : Bool) → among u.who f.objects ≡ b
-          → guard (elim b [ true ↦ None | false ↦ Some u ]) (out_of (carried f cs ts m).row) w ≡ Some v → Marked v (trains_after f cs ts m)
-      old_mark u i true a g = fresh_mark (out_of (carried f cs ts m).row) refl g
+      old_mark : (u : Wish) → m.mark ≡ Some u → (b : Bool) → among u.who f.objects ≡ b
+          → guard (cond b None (Some u)) (out_of (carried f cs ts m).taken) w ≡ Some v → Marked v (trains_after f cs ts m)
+      old_mark u i true a g = fresh_mark (out_of (carried f cs ts m).taken) refl g
       old_mark u i false a g = let same : u ≡ v = cc in subst (λ x. Marked x (trains_after f cs ts m)) same (kept_mark u i a)
 
-      go : (mk : Option Mark) → m.mark ≡ mk → guard (mark_after f.objects mk) (out_of (carried f cs ts m).row) w ≡ Some v → Marked v (trains_after f cs ts m)
-      go None i g = fresh_mark (out_of (carried f cs ts m).row) refl g
+      go : (mk : Option Wish) → m.mark ≡ mk → guard (mark_after f.objects mk) (out_of (carried f cs ts m).taken) w ≡ Some v → Marked v (trains_after f cs ts m)
+      go None i g = fresh_mark (out_of (carried f cs ts m).taken) refl g
       go (Some u) i g = old_mark u i (among u.who f.objects) refl g
 
   car_sound : (w : Wish) → first_to (train_objects (f ∷ cs)) (outside m.roots ((f ∷ cs) ∷ ts) ts) ≡ Some w
-      → SoundAt m.made m.roots (trains_after f cs ts m) (guard (mark_after f.objects m.mark) (out_of (carried f cs ts m).row) w)
+      → SoundAt m.made m.roots (trains_after f cs ts m) (guard (mark_after f.objects m.mark) (out_of (carried f cs ts m).taken) w)
   car_sound w e =
       let c = carried f cs ts m in
       let W = wishes m.roots m.mark f cs ts in
-      let R = place_all (f.number ∷ []) c.row (cs ∷ ts) in
+      let R = place_all (f.number ∷ []) c.taken (cs ∷ ts) in
       let whole : (y : ℕ) → times y (objects (trains_after f cs ts m)) + times y c.left ≡ times y (objects ((f ∷ cs) ∷ ts)) = λ y. step_total (is y) f cs ts m in
       let sizes = (claims_all Sized W f.objects (all_left Sized f.objects (train_objects cs) (all_left Sized (f.objects ++ train_objects cs) (objects ts) s.sized))).0 in
       let below = claims_below W f.objects (wishes_below m.roots m.mark f cs ts s.few s.mark) in
@@ -324,9 +334,9 @@ module _ (f : Car) (cs : Train) (ts : Trains) (m : Model) (s : SoundAt m.made m.
         refs = all_with _ _ (Points (λ y. 1 ≤ times y (objects (trains_after f cs ts m)))) (λ o p q i y h. omega (arith, whole y, p i y h, q i y h))
             (objects (trains_after f cs ts m)) (refs_kept f cs ts m) (step_all _ f cs ts m s.refs);
         room = omega (arith, step_total obj_size f cs ts m, s.room);
-        filled = filled_trim R (filled_place_all (f.number ∷ []) c.row (cs ∷ ts) sizes (filled_tail f cs s.filled.0, s.filled.1));
-        standing = standing_trim_all (f.number ∷ []) c.row cs ts s.standing.1;
-        few = omega (arith, (length-trim R).0, (length-place_all (f.number ∷ []) c.row (cs ∷ ts) below s.few).1);
+        filled = filled_trim R (filled_place_all (f.number ∷ []) c.taken (cs ∷ ts) sizes (filled_tail f cs s.filled.0, s.filled.1));
+        standing = standing_trim_all (f.number ∷ []) c.taken cs ts s.standing.1;
+        few = omega (arith, (length-trim R).0, (length-place_all (f.number ∷ []) c.taken (cs ∷ ts) below s.few).1);
         mark = marks_after w e;
       }
 
@@ -336,14 +346,14 @@ train_sound : (has : Remembers) (t : Train) (ts : Trains) (m : Model) → SoundA
 train_sound has t ts m s e =
     let none = first_none (train_objects t) (outside m.roots (t ∷ ts) ts) e in
     let P : Wish → Type 0 = λ w. times w.who (train_objects t) ≡ 0 in
-    let both : (w : Obj → ℕ) → total w (train_objects t ++ objects ts) ≡ total w (train_objects t) + total w (objects ts) = λ w. total-++ w (train_objects t) (objects ts) in
+    let both : (w : Obj → ℕ) → sum_by w (train_objects t ++ objects ts) ≡ sum_by w (train_objects t) + sum_by w (objects ts) = λ w. sum_by-append w (train_objects t) (objects ts) in
     record {
       old = all_right _ (train_objects t) (objects ts) s.old;
       once = λ x. omega (arith, both (is x), s.once x);
       sized = all_right _ (train_objects t) (objects ts) s.sized;
-      roots = λ r x h. omega (arith, both (is x), s.roots r x h, ref_each P (arrival (t ∷ ts)) m.roots (each_left P (ref_wishes (arrival (t ∷ ts)) m.roots) (trains_wishes 1 ts) none) r x h);
+      roots = λ r x h. omega (arith, both (is x), s.roots r x h, ref_each P (arrival (t ∷ ts)) m.roots (all_left P (ref_wishes (arrival (t ∷ ts)) m.roots) (trains_wishes 1 ts) none) r x h);
       refs = all_with _ _ (Points (λ y. 1 ≤ times y (objects ts))) (λ o p q i y h. omega (arith, both (is y), p i y h, q i y h)) (objects ts)
-          (trains_each (λ y. times y (train_objects t) ≡ 0) 1 ts (each_right P (ref_wishes (arrival (t ∷ ts)) m.roots) (trains_wishes 1 ts) none))
+          (trains_each (λ y. times y (train_objects t) ≡ 0) 1 ts (all_right P (ref_wishes (arrival (t ∷ ts)) m.roots) (trains_wishes 1 ts) none))
           (all_right _ (train_objects t) (objects ts) s.refs);
       room = omega (arith, both obj_size, s.room);
       filled = s.filled.1;
@@ -363,7 +373,7 @@ step_sound M has ((f ∷ cs) ∷ ts) m s e = go (first_to (train_objects (f ∷ 
 
 module _ (M : Meaning) (law : Lawful M) (has : Remembers) where
   act_sound : (c : Call) (m : Model) → Sound m → Sound (act M has c m).state
-  act_sound (make r k a b) m s = make_sound M law (is_root r) (M.admits k a b) (has_room (fresh M k a b) m) k a b r m refl refl s
+  act_sound (make r k a b) m s = make_sound M law has r k a b m s
   act_sound (access c) m s = effect_sound M law (reply_of (inside (all_objects m)) m.roots c).effect m (placed_effect M law c m s) s
   act_sound step m s = step_sound M has m.trains m s refl
   act_sound tally m s = s

@@ -1,9 +1,10 @@
 -- A step always finds a free car and copies little, and nothing that is held is lost.
-use Rattle.std.proofs.Common.{◌≡◌, ℕ, ◌<◌, ◌≤◌, true, [], ◌∷◌, ◌++◌, get_or, Some, None, Option, sym, refl, ap, ◌∙◌, subst, arith}
+use Rattle.std.proofs.Common.{◌≡◌, ℕ, ◌<◌, ◌≤◌, [], ◌∷◌, ◌++◌, get_or, Some, None, Option, sym, refl, ap, ◌∙◌, subst, arith, eqb}
+use Rattle.std.specs.List.{IsDistinct, AllByRecursion}
 use Rattle.layout.specs.Meaning.{Meaning, Lawful}
 use Rattle.remembered.specs.Meaning.{Meaning as Remembers}
 use Rattle.model.specs.Calls.{Call, make, access, step, tally, History}
-use Rattle.model.specs.Trains.{Car, Train, Trains, train_objects, objects, words_of, times, car_words, numbers, one_of, Distinct, car_count}
+use Rattle.model.specs.Trains.{Car, Train, Trains, train_objects, objects, words_of, times, car_words, numbers, car_count}
 use Rattle.model.specs.Claims.{Wish}
 use Rattle.model.specs.Step.{first_to, outside, wishes}
 use Rattle.model.specs.Space.{Model, all_objects, step_by, step_on, act, space_of, Use}
@@ -78,8 +79,8 @@ never_fail_law M law has h u =
     let row = overlooked_law M law card_has card_lawful h in
     record {
       stands = s;
-      below = subst (λ (n : Model). (k : ℕ) → one_of k (numbers n.trains) ≡ true → k < car_count) same row.below;
-      differ = subst (λ (n : Model). Distinct (numbers n.trains)) same row.differ;
+      below = subst (λ (n : Model). AllByRecursion (λ k. k < car_count) (numbers n.trains)) same row.below;
+      differ = subst (λ (n : Model). IsDistinct eqb (numbers n.trains)) same row.differ;
       free = free_car m.trains (omega (arith, few));
       free_in_a_step = moments m m.trains s;
       copies = copies_of M law has h u;

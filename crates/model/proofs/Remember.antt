@@ -1,29 +1,30 @@
--- Each call keeps the remembered set complete, so no reference is overlooked.
-use Rattle.std.proofs.Common.{◌≡◌, ℕ, zero, suc, ◌+◌, ◌*◌, ◌<◌, ◌≤◌, Bool, true, false, cond, eqb, List, [], ◌∷◌, ◌++◌, length, get_or, replicate, Some, None, Option, sym, refl, ap, ◌∙◌, subst, arith, length-set}
+-- AllByRecursion call keeps the remembered set complete, so no reference is overlooked.
+use Rattle.std.proofs.Common.{◌≡◌, ℕ, ◌+◌, ◌*◌, ◌<◌, ◌≤◌, Bool, true, false, cond, eqb, List, [], ◌∷◌, ◌++◌, length, get_or, Some, None, Option, sym, refl, ap, ◌∙◌, subst, arith, length-set, not}
 use lib.ListN.{length-replicate}
 use Rattle.std.proofs.lemmas.Bool.{eqb-false, ltb-false, or_parts}
+use Rattle.std.specs.List.{AllByRecursion, IsDistinct}
+use Rattle.std.specs.Prelude.{map}
 use Rattle.layout.specs.Meaning.{Meaning, Lawful}
 use Rattle.remembered.specs.Meaning.{Row, forget}
 use Rattle.remembered.specs.Meaning.{Meaning as Remembers, Lawful as RemembersLawfully}
 use Rattle.model.specs.Calls.{Call, make, access, step, tally, History}
 use Rattle.model.specs.Bodies.{Shape, Body, fresh, size, with_ref, with_value, is_root, Effect, leave, hold, point, store, reply_of}
-use Rattle.model.specs.Trains.{Distinct, Obj, Car, Train, Trains, train_objects, objects, words_of, words_in_use, obj_size, times, among, car_numbers, numbers, one_of, lowest_free, place_at, arrival, inside, alter, car_words}
+use Rattle.model.specs.Trains.{Obj, Car, Train, Trains, train_objects, objects, words_of, words_in_use, obj_size, times, among, car_numbers, numbers, one_of, lowest_free, place_at, arrival, inside, alter, car_words}
 use Rattle.model.specs.Claims.{Wish, Claim}
 use Rattle.model.specs.Step.{first_to, outside, wishes, claimed, place_all}
-use Rattle.model.specs.Notes.{Seat, seat, Slot, train_slots, slots, notes, target_among, touched, is_slot, tell, forget_all}
-use Rattle.model.specs.Space.{Model, all_objects, space_make, made_by, has_room, space_with, carried, trains_after, step_by, step_on, act, space_of}
-use Rattle.model.specs.Remembered.{EachSlot, NoReferenceIsOverlooked}
-use Rattle.model.proofs.Totals.{total-++, claims-total, place_at-total}
-use Rattle.model.specs.Sound.{All, Points, Sized, Filled, AllFilled, SoundAt, Sound}
-use Rattle.model.proofs.Alls.{all_left, all_right, claims_all, place_at_all}
-use Rattle.model.proofs.Distinct.{one_of_here, one_of_there, one_of_apart, lowest_unused}
+use Rattle.model.specs.Notes.{Seat, seat, Slot, train_slots, slots, notes, target_among, touched, is_slot, tell}
+use Rattle.model.specs.Space.{Model, all_objects, made_by, has_room, space_with, carried, trains_after, step_by, step_on, act, space_of}
+use Rattle.model.specs.Remembered.{NoReferenceIsOverlooked}
+use Rattle.model.proofs.Totals.{claims-total, place_at-total, sums}
+use Rattle.model.specs.Sound.{Points, Sized, Filled, SoundAt, Sound}
+use Rattle.model.proofs.Alls.{all_left, all_right, claims_all, place_at_all, all_map, all_with}
+use Rattle.model.proofs.Distinct.{one_of_apart, lowest_unused, all_at, distinct_nil, distinct_head}
 use Rattle.model.proofs.Cars.{RanksBelow, filled_tail, filled_place_at, length-place_at, few_cars, length-numbers}
-use Rattle.model.proofs.Closure.{is_self}
 use Rattle.model.proofs.Alters.{ref_size, value_size, objects-alter, alter_all}
 use Rattle.model.proofs.Outside.{claims_below, wishes_below}
-use Rattle.model.proofs.Keeps.{all_map, old_none, step_all, sound_of}
+use Rattle.model.proofs.Keeps.{old_none, step_all, sound_of, make_cases, no_ref, times_self}
 use Rattle.model.proofs.RememberCars.{cars_in_row, row_objects, row_numbers, row_seat, row_slots, row_alter, row_trim, place_at-placed, Numbered, placed-numbered, numbered_right, numbered_apart, alter-numbers, seat-number, seat_found}
-use Rattle.model.proofs.RememberSlots.{InRefs, InObjects, InCars, cars_from, cars_all, slot_with, By, cars_slots, Noted, Always, But, noted_right, noted_with, noted_placed, store_noted, point_noted, ToldSlot, noted_slots, slots_noted}
+use Rattle.model.proofs.RememberSlots.{InRefs, InObjects, InCars, cars_from, cars_all, By, cars_slots, Noted, Always, But, noted_right, noted_with, noted_placed, store_noted, point_noted, ToldSlot, noted_slots, slots_noted}
 use Rattle.model.proofs.RememberTold.{notes_keep, Gained, notes_gain, forgets_keep}
 
 -- a body of an admitted shape, with as many references and data words as the layout says
@@ -35,7 +36,7 @@ Shaped M b =
 
 pub record Remembering (M : Meaning) (has : Remembers) (ts : Trains) (r : Row) : Type 0 where
   pub numbered : Numbered (cars_in_row ts)
-  pub shaped : All (λ o. Shaped M o.body) (objects ts)
+  pub shaped : AllByRecursion (λ o. Shaped M o.body) (objects ts)
   pub noted : Noted M has r Always (cars_in_row ts)
 
 -- Addresses.
@@ -44,15 +45,14 @@ abbrev Below : ℕ → ℕ → ℕ → Option ℕ → Type 0
 Below a x i h = a < 8192
 
 abbrev Within : Train → Type 0
-Within [] = Unit {0}
-Within (c ∷ cs) = (words_of c.objects ≤ 128) × Within cs
+Within t = AllByRecursion (λ c. words_of c.objects ≤ 128) t
 
 filled_within : (t u : Train) → Filled t → Within u → Within (t ++ u)
 filled_within [] u h w = w
 filled_within (c ∷ []) u h w = (h.1, w)
 filled_within (c ∷ d ∷ cs) u h w = (h.1, filled_within (d ∷ cs) u h.2 w)
 
-all_within : (ts : Trains) → AllFilled ts → Within (cars_in_row ts)
+all_within : (ts : Trains) → AllByRecursion Filled ts → Within (cars_in_row ts)
 all_within [] h = tt
 all_within (t ∷ ts) h = filled_within t (cars_in_row ts) h.0 (all_within ts h.1)
 
@@ -65,29 +65,29 @@ module _ (M : Meaning) (law : Lawful M) where
       let p = (law.apart s.kind s.refs s.words ok).ref_inside j (omega (arith, l)) in
       (omega (arith, p.1, k), refs_below s ok x a (j + 1) hs (omega (arith, l)) k)
 
-  objects_below : (a : ℕ) (os : List Obj) → a + words_of os ≤ 8192 → All (λ o. Shaped M o.body) os → InObjects M Below a os
+  objects_below : (a : ℕ) (os : List Obj) → a + words_of os ≤ 8192 → AllByRecursion (λ o. Shaped M o.body) os → InObjects M Below a os
   objects_below a [] l p = tt
   objects_below a (o ∷ os) l p =
       let q = p.0 in (
-        refs_below o.body.shape q.0 o.id a 0 o.body.refs (omega (arith, q.1)) (omega (arith, q.1, q.2, l)),
-        objects_below (a + size o.body) os (omega (arith, l)) p.1,
+        refs_below o.body.shape q.0 o.id a 0 o.body.refs (omega (arith, q.1)) (omega (arith, sums, q.1, q.2, l)),
+        objects_below (a + size o.body) os (omega (arith, sums, l)) p.1,
       )
 
-  cars_below : (t : Train) → Within t → ((z : ℕ) → one_of z (car_numbers t) ≡ true → z < 64) → All (λ o. Shaped M o.body) (train_objects t) → InCars M Below t
+  cars_below : (t : Train) → Within t → AllByRecursion (λ z. z < 64) (car_numbers t) → AllByRecursion (λ o. Shaped M o.body) (train_objects t) → InCars M Below t
   cars_below [] w k p = tt
   cars_below (c ∷ cs) w k p =
-      let n : c.number < 64 = k c.number (one_of_here c.number (car_numbers cs)) in
+      let n : c.number < 64 = k.0 in
       let l : words_of c.objects ≤ 128 = w.0 in (
         objects_below (car_words * c.number) c.objects (omega arith) (all_left _ c.objects (train_objects cs) p),
-        cars_below cs w.1 (λ z e. k z (one_of_there z c.number (car_numbers cs) e)) (all_right _ c.objects (train_objects cs) p),
+        cars_below cs w.1 k.1 (all_right _ c.objects (train_objects cs) p),
       )
 
-  addresses_below : (ts : Trains) → AllFilled ts → Numbered (cars_in_row ts) → All (λ o. Shaped M o.body) (objects ts)
-      → EachSlot (λ s. s.address < 8192) (slots M 0 ts)
+  addresses_below : (ts : Trains) → AllByRecursion Filled ts → Numbered (cars_in_row ts) → AllByRecursion (λ o. Shaped M o.body) (objects ts)
+      → AllByRecursion (λ s. s.address < 8192) (slots M 0 ts)
   addresses_below ts f k p =
-      subst (λ (ss : List Slot). EachSlot (λ s. s.address < 8192) ss) (sym (row_slots M 0 ts))
+      subst (λ (ss : List Slot). AllByRecursion (λ s. s.address < 8192) ss) (sym (row_slots M 0 ts))
       (cars_slots M Below 0 (cars_in_row ts)
-      (cars_below (cars_in_row ts) (all_within ts f) k.0 (subst (λ (os : List Obj). All (λ o. Shaped M o.body) os) (sym (row_objects ts)) p)))
+      (cars_below (cars_in_row ts) (all_within ts f) k.0 (subst (λ (os : List Obj). AllByRecursion (λ o. Shaped M o.body) os) (sym (row_objects ts)) p)))
 
 -- The notes add what was left out.
 
@@ -97,12 +97,12 @@ join_told : (has : Remembers) (ts : Trains) (test : Slot → Bool) (q : Row) (E 
 join_told has ts test q E num out s u v y d e w l k = go (test s) refl
   where
     go : (b : Bool) → test s ≡ b → has q d.number s.address ≡ true
-    go true a = v.0 a y d e (row_seat 0 y ts ∙ w) l (num.0 d.number (seat-number y d 0 (cars_in_row ts) w)) v.1
+    go true a = v.0 a y d e (row_seat 0 y ts ∙ w) l (all_at (λ z. z < 64) d.number (car_numbers (cars_in_row ts)) num.0 (seat-number y d 0 (cars_in_row ts) w)) v.1
     go false a = u y d e w l (out s y e a)
 
 module _ (M : Meaning) (law : Lawful M) (has : Remembers) (told-law : RemembersLawfully has) where
-  complete : (ts : Trains) (r : Row) (test : Slot → Bool) (E : ℕ → ℕ → ℕ → Type 0) → ((y : ℕ) → times y (objects ts) ≤ 1) → AllFilled ts
-      → Numbered (cars_in_row ts) → All (λ o. Shaped M o.body) (objects ts)
+  complete : (ts : Trains) (r : Row) (test : Slot → Bool) (E : ℕ → ℕ → ℕ → Type 0) → ((y : ℕ) → times y (objects ts) ≤ 1) → AllByRecursion Filled ts
+      → Numbered (cars_in_row ts) → AllByRecursion (λ o. Shaped M o.body) (objects ts)
       → ((s : Slot) (y : ℕ) → s.target ≡ Some y → test s ≡ false → E s.holder s.index y)
       → Noted M has r E (cars_in_row ts) → Noted M has (tell (notes ts test (slots M 0 ts)) r) Always (cars_in_row ts)
   complete ts r test E once f num shp out p =
@@ -110,12 +110,12 @@ module _ (M : Meaning) (law : Lawful M) (has : Remembers) (told-law : RemembersL
       let t = cars_in_row ts in
       let kept = noted_with M has r q E E t p (cars_all M (λ a x i h. (y : ℕ) → h ≡ Some y → E x i y → E x i y) (λ a x i h y e k. k) t)
       (λ n a o u. notes_keep has told-law ts test (slots M 0 ts) r n a u) in
-      let told = subst (λ (ss : List Slot). EachSlot (ToldSlot has q E 0 t) ss) (sym (row_slots M 0 ts)) (noted_slots M has q E 0 t kept) in
-      let gain = slot_with (Gained has ts test q) (λ s. s.address < 8192) (λ s. Gained has ts test q s × (s.address < 8192)) (λ s u v. (u, v)) (slots M 0 ts)
+      let told = subst (λ (ss : List Slot). AllByRecursion (ToldSlot has q E 0 t) ss) (sym (row_slots M 0 ts)) (noted_slots M has q E 0 t kept) in
+      let gain = all_with (Gained has ts test q) (λ s. s.address < 8192) (λ s. Gained has ts test q s × (s.address < 8192)) (λ s u v. (u, v)) (slots M 0 ts)
       (notes_gain has told-law ts test (slots M 0 ts) r) (addresses_below M law ts f num shp) in
       slots_noted M has q Always 0 t (λ y. omega (arith, ap (times y) (row_objects ts), once y))
-      (subst (λ (ss : List Slot). EachSlot (ToldSlot has q Always 0 t) ss) (row_slots M 0 ts)
-      (slot_with (ToldSlot has q E 0 t) (λ s. Gained has ts test q s × (s.address < 8192)) (ToldSlot has q Always 0 t)
+      (subst (λ (ss : List Slot). AllByRecursion (ToldSlot has q Always 0 t) ss) (row_slots M 0 ts)
+      (all_with (ToldSlot has q E 0 t) (λ s. Gained has ts test q s × (s.address < 8192)) (ToldSlot has q Always 0 t)
       (join_told has ts test q E num out) (slots M 0 ts) told gain))
 
 -- A make.
@@ -124,13 +124,8 @@ module _ (M : Meaning) (law : Lawful M) (has : Remembers) (told-law : RemembersL
 abbrev NotTo : ℕ → ℕ → ℕ → ℕ → Type 0
 NotTo z x i y = y ≡ z → ⊥
 
-none_held : (n i y : ℕ) → get_or (replicate {A = Option ℕ} n None) i None ≡ Some y → ⊥
-none_held zero i y e = let z : ◌≡◌ {A = ℕ} 0 1 = cc in omega arith
-none_held (suc n) zero y e = let z : ◌≡◌ {A = ℕ} 0 1 = cc in omega arith
-none_held (suc n) (suc i) y e = none_held n i y e
-
 place_remembers : (M : Meaning) (has : Remembers) (k n : ℕ) (o : Obj) (ts : Trains) (r : Row) → n < 64 → one_of n (numbers ts) ≡ false → Shaped M o.body
-    → ((i y : ℕ) → get_or o.body.refs i None ≡ Some y → ⊥) → All (Points (λ y. y ≡ o.id → ⊥)) (objects ts)
+    → ((i y : ℕ) → get_or o.body.refs i None ≡ Some y → ⊥) → AllByRecursion (Points (λ y. y ≡ o.id → ⊥)) (objects ts)
     → Remembering M has ts r → Remembering M has (place_at k n o ts) r
 place_remembers M has k n o ts r h f shp none others rem =
     let q = place_at-placed k n o ts in
@@ -139,7 +134,7 @@ place_remembers M has k n o ts r h f shp none others rem =
     (cars_all M (λ a x i h. (y : ℕ) → h ≡ Some y → E x i y → Always x i y) (λ a x i h y e u. tt) (cars_in_row ts)) (λ m a u v. v) in
     let after = noted_placed M has r E n o (λ i j y e u. none i y e) (λ x i u. u refl) q before in
     let fine = place_at_all (Points (λ y. y ≡ o.id → ⊥)) k n o ts others (λ i y e. absurd (none i y e)) in
-    let points = subst (λ (os : List Obj). All (Points (λ y. y ≡ o.id → ⊥)) os) (sym (row_objects (place_at k n o ts))) fine in
+    let points = subst (λ (os : List Obj). AllByRecursion (Points (λ y. y ≡ o.id → ⊥)) os) (sym (row_objects (place_at k n o ts))) fine in
     let B : ℕ → ℕ → ℕ → Option ℕ → Type 0 = λ a x i h. (y : ℕ) → h ≡ Some y → Always x i y → E x i y in
     record {
       numbered = placed-numbered n o (cars_in_row ts) (cars_in_row (place_at k n o ts)) q h (subst (λ (ns : List ℕ). one_of n ns ≡ false) (sym (row_numbers ts)) f) rem.numbered;
@@ -160,24 +155,23 @@ module _ (M : Meaning) (law : Lawful M) (has : Remembers) (told-law : RemembersL
       let free = lowest_unused (numbers ts) (omega (arith, length-numbers ts, few)) in
       place_remembers M has (arrival ts) (lowest_free (numbers ts)) (record { id = m.made; body = fresh M k a b }) ts m.told free.0 free.1
       (ok, length-replicate {A = Option ℕ} (M.ref_count k a b) None, length-replicate {A = ℕ} (M.word_count k a b) 0)
-      (λ i y e. none_held (M.ref_count k a b) i y e)
+      (λ i y e. no_ref (M.ref_count k a b) i y e)
       (all_map (Points (λ y. 1 ≤ times y (objects ts))) (Points (λ y. y ≡ m.made → ⊥))
       (λ p u i y e q. omega (arith, u i y e, old_none m.made y (objects ts) (omega (arith, q)) s.old)) (objects ts) s.refs)
       rem
 
-  make_remembers : (a b c : Bool) (k x y r : ℕ) (m : Model) → M.admits k x y ≡ b → Sound m → Remembering M has m.trains m.told
-      → Remembering M has (space_make a b c (fresh M k x y) r m).state.trains (space_make a b c (fresh M k x y) r m).state.told
-  make_remembers false b c k x y r m p s rem = rem
-  make_remembers true false c k x y r m p s rem = rem
-  make_remembers true true false k x y r m p s rem = rem
-  make_remembers true true true k x y r m p s rem = made_remembers k x y r m p s rem
+  make_remembers : (r k a b : ℕ) (m : Model) → Sound m → Remembering M has m.trains m.told
+      → Remembering M has (act M has (make r k a b) m).state.trains (act M has (make r k a b) m).state.told
+  make_remembers r k a b m s rem =
+      make_cases (λ o. Remembering M has o.state.trains o.state.told) (is_root r) (M.admits k a b) (not (has_room (fresh M k a b) m)) m
+      (made_by (fresh M k a b) r m) (λ n. rem) (λ ok room. made_remembers k a b r m ok s rem)
 
 -- A call on what the roots hold.
 
 alter_shaped : (M : Meaning) (x : ℕ) (g : Body → Body) → ((b : Body) → Shaped M b → Shaped M (g b)) → (ts : Trains)
-    → All (λ o. Shaped M o.body) (objects ts) → All (λ o. Shaped M o.body) (objects (alter x g ts))
+    → AllByRecursion (λ o. Shaped M o.body) (objects ts) → AllByRecursion (λ o. Shaped M o.body) (objects (alter x g ts))
 alter_shaped M x g keeps ts p =
-    subst (λ (os : List Obj). All (λ o. Shaped M o.body) os) (sym (objects-alter x g ts))
+    subst (λ (os : List Obj). AllByRecursion (λ o. Shaped M o.body) os) (sym (objects-alter x g ts))
     (alter_all x g (λ o. Shaped M o.body) (λ o. Shaped M o.body) (λ o q. go o q (eqb x o.id)) (objects ts) p)
   where
     go : (o : Obj) → Shaped M o.body → (b : Bool) → Shaped M (cond b (g o.body) o.body)
@@ -186,7 +180,7 @@ alter_shaped M x g keeps ts p =
 
 alter-numbered : (x : ℕ) (g : Body → Body) (ts : Trains) → Numbered (cars_in_row ts) → Numbered (cars_in_row (alter x g ts))
 alter-numbered x g ts k =
-    subst (λ (ns : List ℕ). ((z : ℕ) → one_of z ns ≡ true → z < 64) × Distinct ns)
+    subst (λ (ns : List ℕ). AllByRecursion (λ z. z < 64) ns × IsDistinct eqb ns)
     (sym (ap car_numbers (row_alter x g ts) ∙ alter-numbers x g (cars_in_row ts))) k
 
 module _ (M : Meaning) (law : Lawful M) (has : Remembers) (told-law : RemembersLawfully has) where
@@ -217,8 +211,8 @@ module _ (M : Meaning) (law : Lawful M) (has : Remembers) (told-law : RemembersL
 
 -- A step.
 
-place_all-numbered : (f : ℕ) (row : List Claim) (ts : Trains) → AllFilled ts → words_in_use ts + words_of (claimed row) ≤ 3072 → length ts ≤ 8
-    → All Sized (claimed row) → RanksBelow row → Numbered (cars_in_row ts) → Numbered (cars_in_row (place_all (f ∷ []) row ts))
+place_all-numbered : (f : ℕ) (row : List Claim) (ts : Trains) → AllByRecursion Filled ts → words_in_use ts + words_of (claimed row) ≤ 3072 → length ts ≤ 8
+    → AllByRecursion Sized (claimed row) → RanksBelow row → Numbered (cars_in_row ts) → Numbered (cars_in_row (place_all (f ∷ []) row ts))
 place_all-numbered f [] ts p w l s r k = k
 place_all-numbered f (c ∷ row) ts p w l s r k =
     let n = lowest_free ((f ∷ []) ++ numbers ts) in
@@ -227,7 +221,7 @@ place_all-numbered f (c ∷ row) ts p w l s r k =
     let unused = (or_parts (eqb n f) (one_of n (numbers ts)) free.1).1 in
     let size-more = place_at-total obj_size c.rank n c.object ts in
     place_all-numbered f row (place_at c.rank n c.object ts) (filled_place_at c.rank n c.object ts s.0 p)
-    (omega (arith, w, size-more)) (length-place_at c.rank n c.object ts r.0 l).1 s.1 r.1
+    (omega (arith, sums, w, size-more)) (length-place_at c.rank n c.object ts r.0 l).1 s.1 r.1
     (placed-numbered n c.object (cars_in_row ts) (cars_in_row (place_at c.rank n c.object ts)) (place_at-placed c.rank n c.object ts) free.0
     (subst (λ (ns : List ℕ). one_of n ns ≡ false) (sym (row_numbers ts)) unused) k)
 
@@ -236,18 +230,13 @@ abbrev Uncarried : List Obj → ℕ → ℕ → ℕ → Type 0
 Uncarried os x i y = (times x os ≡ 0) × (times y os ≡ 0)
 
 place_all_noted : (M : Meaning) (has : Remembers) (r : Row) (os : List Obj) (busy : List ℕ) (row : List Claim) (ts : Trains)
-    → All (λ o. 1 ≤ times o.id os) (claimed row) → Noted M has r (Uncarried os) (cars_in_row ts) → Noted M has r (Uncarried os) (cars_in_row (place_all busy row ts))
+    → AllByRecursion (λ o. 1 ≤ times o.id os) (claimed row) → Noted M has r (Uncarried os) (cars_in_row ts) → Noted M has r (Uncarried os) (cars_in_row (place_all busy row ts))
 place_all_noted M has r os busy [] ts a p = p
 place_all_noted M has r os busy (c ∷ row) ts a p =
     let n = lowest_free (busy ++ numbers ts) in
     let here : 1 ≤ times c.object.id os = a.0 in
     place_all_noted M has r os busy row (place_at c.rank n c.object ts) a.1
     (noted_placed M has r (Uncarried os) n c.object (λ i j y e u. omega (arith, u.0)) (λ x i u. omega (arith, u.1)) (place_at-placed c.rank n c.object ts) p)
-
-times_self : (os : List Obj) → All (λ o. 1 ≤ times o.id os) os
-times_self [] = tt
-times_self (o ∷ os) =
-    (omega (arith, is_self o.id o refl), all_map (λ p. 1 ≤ times p.id os) (λ p. 1 ≤ times p.id (o ∷ os)) (λ p h. omega (arith, h)) os (times_self os))
 
 untouched : (os : List Obj) (s : Slot) (y : ℕ) → s.target ≡ Some y → touched os s ≡ false → Uncarried os s.holder s.index y
 untouched os s y e t =
@@ -256,11 +245,11 @@ untouched os s y e t =
     (omega (arith, ltb-false 0 (times s.holder os) k.0), omega (arith, ltb-false 0 (times y os) h))
 
 module _ (M : Meaning) (law : Lawful M) (has : Remembers) (told-law : RemembersLawfully has) where
-  train_remembers : (t : Train) (ts : Trains) (r : Row) → Remembering M has (t ∷ ts) r → Remembering M has ts (tell (forget_all (car_numbers t)) r)
+  train_remembers : (t : Train) (ts : Trains) (r : Row) → Remembering M has (t ∷ ts) r → Remembering M has ts (tell (map forget (car_numbers t)) r)
   train_remembers t ts r rem = record {
     numbered = numbered_right t (cars_in_row ts) rem.numbered;
     shaped = all_right (λ o. Shaped M o.body) (train_objects t) (objects ts) rem.shaped;
-    noted = noted_with M has r (tell (forget_all (car_numbers t)) r) Always Always (cars_in_row ts) (noted_right M has r Always t (cars_in_row ts) rem.noted)
+    noted = noted_with M has r (tell (map forget (car_numbers t)) r) Always Always (cars_in_row ts) (noted_right M has r Always t (cars_in_row ts) rem.noted)
         (cars_all M (λ a x i h. (y : ℕ) → h ≡ Some y → Always x i y → Always x i y) (λ a x i h y e u. u) (cars_in_row ts))
         (λ n a o u. forgets_keep has told-law (car_numbers t) r n a (numbered_apart t (cars_in_row ts) rem.numbered n o) u);
   }
@@ -269,40 +258,33 @@ module _ (M : Meaning) (law : Lawful M) (has : Remembers) (told-law : RemembersL
     after_numbered : Numbered (cars_in_row (trains_after f cs ts m))
     after_numbered =
         let W = wishes m.roots m.mark f cs ts in
-        let row = (carried f cs ts m).row in
+        let row = (carried f cs ts m).taken in
         let R = place_all (f.number ∷ []) row (cs ∷ ts) in
         let sizes = (claims_all Sized W f.objects (all_left Sized f.objects (train_objects cs) (all_left Sized (f.objects ++ train_objects cs) (objects ts) s.sized))).0 in
         let below = claims_below W f.objects (wishes_below m.roots m.mark f cs ts s.few s.mark) in
         subst Numbered (sym (row_trim R))
         (place_all-numbered f.number row (cs ∷ ts) (filled_tail f cs s.filled.0, s.filled.1)
-        (omega (
-          arith,
-          s.room,
-          claims-total obj_size W f.objects,
-          total-++ obj_size (f.objects ++ train_objects cs) (objects ts),
-          total-++ obj_size f.objects (train_objects cs),
-          total-++ obj_size (train_objects cs) (objects ts),
-        ))
+        (omega (arith, sums, s.room, claims-total obj_size W f.objects))
         s.few sizes below (numbered_right (f ∷ []) (cars_in_row (cs ∷ ts)) rem.numbered))
 
-    after_noted : Noted M has (forget f.number ∷ m.told) (Uncarried (claimed (carried f cs ts m).row)) (cars_in_row (trains_after f cs ts m))
+    after_noted : Noted M has (forget f.number ∷ m.told) (Uncarried (claimed (carried f cs ts m).taken)) (cars_in_row (trains_after f cs ts m))
     after_noted =
-        let row = (carried f cs ts m).row in
+        let row = (carried f cs ts m).taken in
         let os = claimed row in
         let q = forget f.number ∷ m.told in
         let R = place_all (f.number ∷ []) row (cs ∷ ts) in
         let t = cars_in_row (cs ∷ ts) in
         let before = noted_with M has m.told q Always (Uncarried os) t rem.noted.1
         (cars_all M (λ a x i h. (y : ℕ) → h ≡ Some y → Uncarried os x i y → Always x i y) (λ a x i h y e u. tt) t)
-        (λ n a o u. told-law.keeps_others m.told f.number n a (eqb-false n f.number (one_of_apart n f.number (car_numbers t) o rem.numbered.1.0)) u) in
+        (λ n a o u. told-law.keeps_others m.told f.number n a (eqb-false n f.number (one_of_apart n f.number (car_numbers t) o (distinct_head f.number (car_numbers t) rem.numbered.1))) u) in
         subst (λ (v : Train). Noted M has q (Uncarried os) v) (sym (row_trim R)) (place_all_noted M has q os (f.number ∷ []) row (cs ∷ ts) (times_self os) before)
 
-    car_remembers : ((y : ℕ) → times y (objects (trains_after f cs ts m)) ≤ 1) → AllFilled (trains_after f cs ts m)
+    car_remembers : ((y : ℕ) → times y (objects (trains_after f cs ts m)) ≤ 1) → AllByRecursion Filled (trains_after f cs ts m)
         → Remembering M has (trains_after f cs ts m)
-        (tell (notes (trains_after f cs ts m) (touched (claimed (carried f cs ts m).row)) (slots M 0 (trains_after f cs ts m))) (forget f.number ∷ m.told))
+        (tell (notes (trains_after f cs ts m) (touched (claimed (carried f cs ts m).taken)) (slots M 0 (trains_after f cs ts m))) (forget f.number ∷ m.told))
     car_remembers once fill =
         let after = trains_after f cs ts m in
-        let os = claimed (carried f cs ts m).row in
+        let os = claimed (carried f cs ts m).taken in
         let shp = step_all (λ o. Shaped M o.body) f cs ts m rem.shaped in
         record {
           numbered = after_numbered;
@@ -322,13 +304,13 @@ module _ (M : Meaning) (law : Lawful M) (has : Remembers) (told-law : RemembersL
 
   act_remembers : (c : Call) (m : Model) → Sound m → Sound (act M has c m).state → Remembering M has m.trains m.told
       → Remembering M has (act M has c m).state.trains (act M has c m).state.told
-  act_remembers (make r k a b) m s z rem = make_remembers M law has told-law (is_root r) (M.admits k a b) (has_room (fresh M k a b) m) k a b r m refl s rem
+  act_remembers (make r k a b) m s z rem = make_remembers M law has told-law r k a b m s rem
   act_remembers (access c) m s z rem = effect_remembers M law has told-law (reply_of (inside (all_objects m)) m.roots c).effect m z rem
   act_remembers step m s z rem = step_remembers m.trains m refl s z rem
   act_remembers tally m s z rem = rem
 
   pub remembering_of : (h : History) → Remembering M has (space_of M has h).trains (space_of M has h).told
-  remembering_of [] = record { numbered = ((λ z e. absurd (let k : ◌≡◌ {A = ℕ} 0 1 = cc in omega arith)), tt); shaped = tt; noted = tt }
+  remembering_of [] = record { numbered = (tt, distinct_nil); shaped = tt; noted = tt }
   remembering_of (e ∷ h) = act_remembers e.call (space_of M has h) (sound_of M law has h) (sound_of M law has (e ∷ h)) (remembering_of h)
 
 -- The law.
@@ -344,16 +326,16 @@ overlooked_law M law has told-law h =
     let found : (y : ℕ) → 1 ≤ times y (objects ts) → (c : Seat) × (seat 0 y ts ≡ Some c) =
     λ y l. let w = seat_found 0 y t (omega (arith, l, ap (times y) (row_objects ts))) in (w.0, row_seat 0 y ts ∙ w.1) in
     let lie = cars_slots M L 0 t (cars_from M L t
-    (subst (λ (os : List Obj). All (λ o. (i b k : ℕ) → L b o.id k (get_or o.body.refs i None)) os) (sym (row_objects ts))
+    (subst (λ (os : List Obj). AllByRecursion (λ o. (i b k : ℕ) → L b o.id k (get_or o.body.refs i None)) os) (sym (row_objects ts))
     (all_map (Points (λ y. 1 ≤ times y (objects ts))) (λ o. (i b k : ℕ) → L b o.id k (get_or o.body.refs i None)) (λ o p i b k y e. found y (p i y e)) (objects ts) s.refs))) in
     let told = noted_slots M has m.told Always 0 t rem.noted in
     record {
-      below = λ n e. rem.numbered.0 n (subst (λ (ns : List ℕ). one_of n ns ≡ true) (sym (row_numbers ts)) e);
-      differ = subst Distinct (row_numbers ts) rem.numbered.1;
+      below = subst (AllByRecursion (λ n. n < 64)) (row_numbers ts) rem.numbered.0;
+      differ = subst (IsDistinct eqb) (row_numbers ts) rem.numbered.1;
       addresses = addresses_below M law ts s.filled rem.numbered rem.shaped;
-      lies = subst (λ (ss : List Slot). EachSlot (By L) ss) (sym (row_slots M 0 ts)) lie;
-      remembered = subst (λ (ss : List Slot). EachSlot (λ v. (y : ℕ) (c : Seat) → v.target ≡ Some y → seat 0 y ts ≡ Some c → c.order < v.order → has m.told c.number v.address ≡ true) ss) (sym (row_slots M 0 ts))
-          (slot_with (ToldSlot has m.told Always 0 t) (ToldSlot has m.told Always 0 t)
+      lies = subst (λ (ss : List Slot). AllByRecursion (By L) ss) (sym (row_slots M 0 ts)) lie;
+      remembered = subst (λ (ss : List Slot). AllByRecursion (λ v. (y : ℕ) (c : Seat) → v.target ≡ Some y → seat 0 y ts ≡ Some c → c.order < v.order → has m.told c.number v.address ≡ true) ss) (sym (row_slots M 0 ts))
+          (all_with (ToldSlot has m.told Always 0 t) (ToldSlot has m.told Always 0 t)
           (λ v. (y : ℕ) (c : Seat) → v.target ≡ Some y → seat 0 y ts ≡ Some c → c.order < v.order → has m.told c.number v.address ≡ true)
           (λ v u u2 y c e w l. u y c e (sym (row_seat 0 y ts) ∙ w) l tt) (train_slots M 0 t) told told);
     }

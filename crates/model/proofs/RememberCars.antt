@@ -1,42 +1,37 @@
--- All cars in one row: seats, slots and numbers go by it, and placing an object changes it at one place.
-use Rattle.std.proofs.Common.{◌≡◌, ℕ, zero, suc, ◌+◌, ◌*◌, ◌<◌, ◌≤◌, Bool, true, false, eqb, ◌⊎◌, List, [], ◌∷◌, ◌++◌, length, Some, None, Option, sym, refl, ap, ◌∙◌, subst, inl, inr, append_assoc, arith}
+-- AllByRecursion cars in one row: seats, slots and numbers go by it, and placing an object changes it at one place.
+use Rattle.std.proofs.Common.{◌≡◌, ℕ, zero, suc, ◌+◌, ◌*◌, ◌<◌, ◌≤◌, Bool, true, false, eqb, ◌⊎◌, List, [], ◌∷◌, ◌++◌, length, Some, None, Option, sym, refl, ap, ◌∙◌, subst, inl, inr, append_assoc, arith, cond, flat_map}
 use Rattle.std.proofs.lemmas.Bool.{both_ways, cases_Bool, eqb-false, ltb-true, ltb-false, or_parts, or_from}
+use Rattle.std.specs.List.{IsDistinct, AllByRecursion}
+use Rattle.std.proofs.lemmas.Map.Keys.{IsDistinct-tail}
+use Rattle.std.proofs.lemmas.List.{map-append}
+use Rattle.std.proofs.lemmas.List.Concat.{flat_map-append}
 use Rattle.layout.specs.Meaning.{Meaning}
 use Rattle.model.specs.Bodies.{Body}
-use Rattle.model.specs.Trains.{Distinct, Obj, Car, Train, Trains, train_objects, objects, times, is, among, car_numbers, numbers, one_of, fits, with_object, opened, place, place_at, alter_objects, alter_train, alter, car_words}
+use Rattle.model.specs.Trains.{Obj, Car, Train, Trains, train_objects, objects, times, among, car_numbers, numbers, one_of, fits, with_object, opened, place, place_at, alter_train, alter, car_words, alter_car}
 use Rattle.model.specs.Step.{trim}
 use Rattle.model.specs.Notes.{Seat, train_seat, seat, object_slots, train_slots, slots}
-use Rattle.model.proofs.Distinct.{one_of_here, one_of_there, one_of_head, one_of_apart, one_of_right}
-use Rattle.model.proofs.Totals.{total-++}
+use Rattle.model.proofs.Distinct.{one_of_here, one_of_there, one_of_head, one_of_apart, one_of_right, distinct_cons, distinct_head}
+use Rattle.model.proofs.Totals.{sums}
 
 -- the cars of all trains, one train after another
 abbrev pub cars_in_row : Trains → Train
-cars_in_row [] = []
-cars_in_row (t ∷ ts) = t ++ cars_in_row ts
-
-train_objects-++ : (t u : Train) → train_objects (t ++ u) ≡ train_objects t ++ train_objects u
-train_objects-++ [] u = refl
-train_objects-++ (c ∷ t) u = ap (λ os. c.objects ++ os) (train_objects-++ t u) ∙ sym (append_assoc c.objects (train_objects t) (train_objects u))
+cars_in_row ts = flat_map (λ t. t) ts
 
 pub row_objects : (ts : Trains) → train_objects (cars_in_row ts) ≡ objects ts
 row_objects [] = refl
-row_objects (t ∷ ts) = train_objects-++ t (cars_in_row ts) ∙ ap (λ os. train_objects t ++ os) (row_objects ts)
-
-pub car_numbers-++ : (t u : Train) → car_numbers (t ++ u) ≡ car_numbers t ++ car_numbers u
-car_numbers-++ [] u = refl
-car_numbers-++ (c ∷ t) u = ap (λ ns. c.number ∷ ns) (car_numbers-++ t u)
+row_objects (t ∷ ts) = flat_map-append (λ (c : Car). c.objects) t (cars_in_row ts) ∙ ap (λ os. train_objects t ++ os) (row_objects ts)
 
 pub row_numbers : (ts : Trains) → car_numbers (cars_in_row ts) ≡ numbers ts
 row_numbers [] = refl
-row_numbers (t ∷ ts) = car_numbers-++ t (cars_in_row ts) ∙ ap (λ ns. car_numbers t ++ ns) (row_numbers ts)
+row_numbers (t ∷ ts) = map-append (λ (c : Car). c.number) t (cars_in_row ts) ∙ ap (λ ns. car_numbers t ++ ns) (row_numbers ts)
 
 train_seat-++ : (n x : ℕ) (t u : Train) (rest : Option Seat) → train_seat n x (t ++ u) rest ≡ train_seat n x t (train_seat (n + length t) x u rest)
 train_seat-++ n x [] u rest = let e : n ≡ n + 0 = omega arith in ap (λ k. train_seat k x u rest) e
 train_seat-++ n x (c ∷ t) u rest = go (among x c.objects) (train_seat-++ (n + 1) x t u rest)
   where
     go : (b : Bool) → train_seat (n + 1) x (t ++ u) rest ≡ train_seat (n + 1) x t (train_seat (n + 1 + length t) x u rest)
-        → ◌≡◌ {A = Option Seat} (elim b [ true ↦ Some (record { order = n; number = c.number }) | false ↦ train_seat (n + 1) x (t ++ u) rest ])
-        (elim b [ true ↦ Some (record { order = n; number = c.number }) | false ↦ train_seat (n + 1) x t (train_seat (n + length (c ∷ t)) x u rest) ])
+        → ◌≡◌ {A = Option Seat} (cond b (Some (record { order = n; number = c.number })) (train_seat (n + 1) x (t ++ u) rest))
+        (cond b (Some (record { order = n; number = c.number })) (train_seat (n + 1) x t (train_seat (n + length (c ∷ t)) x u rest)))
     go true e = refl
     go false e =
         let k : n + 1 + length t ≡ n + length (c ∷ t) = omega arith in
@@ -58,15 +53,9 @@ pub row_slots : (M : Meaning) (n : ℕ) (ts : Trains) → slots M n ts ≡ train
 row_slots M n [] = refl
 row_slots M n (t ∷ ts) = ap (λ ss. train_slots M n t ++ ss) (row_slots M (n + length t) ts) ∙ sym (train_slots-++ M n t (cars_in_row ts))
 
-alter_train-++ : (x : ℕ) (g : Body → Body) (t u : Train) → alter_train x g (t ++ u) ≡ alter_train x g t ++ alter_train x g u
-alter_train-++ x g [] u = refl
-alter_train-++ x g (c ∷ t) u =
-    let d : Car = record { number = c.number; objects = alter_objects x g c.objects } in
-    ap (λ (v : Train). d ∷ v) (alter_train-++ x g t u)
-
 pub row_alter : (x : ℕ) (g : Body → Body) (ts : Trains) → cars_in_row (alter x g ts) ≡ alter_train x g (cars_in_row ts)
 row_alter x g [] = refl
-row_alter x g (t ∷ ts) = ap (λ u. alter_train x g t ++ u) (row_alter x g ts) ∙ sym (alter_train-++ x g t (cars_in_row ts))
+row_alter x g (t ∷ ts) = ap (λ u. alter_train x g t ++ u) (row_alter x g ts) ∙ sym (map-append (alter_car x g) t (cars_in_row ts))
 
 pub row_trim : (ts : Trains) → cars_in_row (trim ts) ≡ cars_in_row ts
 row_trim [] = refl
@@ -83,7 +72,7 @@ place-placed : (n : ℕ) (o : Obj) (t rest : Train) → Placed n o (t ++ rest) (
 place-placed n o [] rest = opens rest
 place-placed n o (c ∷ []) rest = go (fits c o)
   where
-    go : (b : Bool) → Placed n o (c ∷ rest) (◌++◌ {A = Car} (elim b [ true ↦ with_object o c ∷ [] | false ↦ c ∷ opened n o ∷ [] ]) rest)
+    go : (b : Bool) → Placed n o (c ∷ rest) (◌++◌ {A = Car} (cond b (with_object o c ∷ []) (c ∷ opened n o ∷ [])) rest)
     go true = joins c rest
     go false = later c rest (opened n o ∷ rest) (opens rest)
 place-placed n o (c ∷ d ∷ cs) rest = later c ((d ∷ cs) ++ rest) (place n o (d ∷ cs) ++ rest) (place-placed n o (d ∷ cs) rest)
@@ -109,39 +98,43 @@ module _ (n : ℕ) (o : Obj) where
         | inr p ↦ elim (placed_either q z p) [ inl k ↦ inl k | inr k ↦ inr (one_of_there z c.number (car_numbers t) k) ]
       ]
 
-  placed_distinct : {t u : Train} → Placed n o t u → one_of n (car_numbers t) ≡ false → Distinct (car_numbers t) → Distinct (car_numbers u)
-  placed_distinct (opens t) f d = (f, d)
+  placed_below : {t u : Train} → Placed n o t u → n < 64 → AllByRecursion (λ z. z < 64) (car_numbers t) → AllByRecursion (λ z. z < 64) (car_numbers u)
+  placed_below (opens t) h k = (h, k)
+  placed_below (joins c t) h k = k
+  placed_below (later c t u q) h k = (k.0, placed_below q h k.1)
+
+  placed_distinct : {t u : Train} → Placed n o t u → one_of n (car_numbers t) ≡ false → IsDistinct eqb (car_numbers t) → IsDistinct eqb (car_numbers u)
+  placed_distinct (opens t) f d = distinct_cons n (car_numbers t) f d
   placed_distinct (joins c t) f d = d
   placed_distinct (later c t u q) f d =
       let k = or_parts (eqb n c.number) (one_of n (car_numbers t)) f in
       let out : one_of c.number (car_numbers u) ≡ false = elim (cases_Bool (one_of c.number (car_numbers u))) [
         | inl p ↦ elim (placed_either q c.number p) [
           | inl e ↦ absurd (eqb-false n c.number k.0 (sym e))
-          | inr e ↦ absurd (both_ways (one_of c.number (car_numbers t)) d.0 e)
+          | inr e ↦ absurd (both_ways (one_of c.number (car_numbers t)) (distinct_head c.number (car_numbers t) d) e)
         ]
         | inr p ↦ p
       ] in
-      (out, placed_distinct q k.1 d.1)
+      distinct_cons c.number (car_numbers u) out (placed_distinct q k.1 (IsDistinct-tail eqb c.number (car_numbers t) d))
 
 -- numbers below 64, each there once
 abbrev pub Numbered : Train → Type 0
-Numbered t = ((z : ℕ) → one_of z (car_numbers t) ≡ true → z < 64) × Distinct (car_numbers t)
+Numbered t = AllByRecursion (λ z. z < 64) (car_numbers t) × IsDistinct eqb (car_numbers t)
 
 pub placed-numbered : (n : ℕ) (o : Obj) (t u : Train) → Placed n o t u → n < 64 → one_of n (car_numbers t) ≡ false → Numbered t → Numbered u
-placed-numbered n o t u q h f k =
-    ((λ z e. elim (placed_either n o q z e) [ inl p ↦ omega arith | inr p ↦ k.0 z p ]), placed_distinct n o q f k.1)
+placed-numbered n o t u q h f k = (placed_below n o q h k.0, placed_distinct n o q f k.1)
 
 pub numbered_right : (t u : Train) → Numbered (t ++ u) → Numbered u
 numbered_right [] u k = k
-numbered_right (c ∷ t) u k = numbered_right t u ((λ z e. k.0 z (one_of_there z c.number (car_numbers (t ++ u)) e)), k.1.1)
+numbered_right (c ∷ t) u k = numbered_right t u (k.0.1, IsDistinct-tail eqb c.number (car_numbers (t ++ u)) k.1)
 
 -- no car of the second part has a number of the first
 pub numbered_apart : (t u : Train) → Numbered (t ++ u) → (z : ℕ) → one_of z (car_numbers u) ≡ true → one_of z (car_numbers t) ≡ false
 numbered_apart [] u k z e = refl
 numbered_apart (c ∷ t) u k z e =
-    let in_rest : one_of z (car_numbers (t ++ u)) ≡ true = subst (λ (ns : List ℕ). one_of z ns ≡ true) (sym (car_numbers-++ t u)) (one_of_right z (car_numbers t) (car_numbers u) e) in
-    or_from (eqb z c.number) (one_of z (car_numbers t)) (one_of_apart z c.number (car_numbers (t ++ u)) in_rest k.1.0)
-    (numbered_apart t u ((λ y p. k.0 y (one_of_there y c.number (car_numbers (t ++ u)) p)), k.1.1) z e)
+    let in_rest : one_of z (car_numbers (t ++ u)) ≡ true = subst (λ (ns : List ℕ). one_of z ns ≡ true) (sym (map-append (λ (c : Car). c.number) t u)) (one_of_right z (car_numbers t) (car_numbers u) e) in
+    or_from (eqb z c.number) (one_of z (car_numbers t)) (one_of_apart z c.number (car_numbers (t ++ u)) in_rest (distinct_head c.number (car_numbers (t ++ u)) k.1))
+    (numbered_apart t u (k.0.1, IsDistinct-tail eqb c.number (car_numbers (t ++ u)) k.1) z e)
 
 pub alter-numbers : (x : ℕ) (g : Body → Body) (t : Train) → car_numbers (alter_train x g t) ≡ car_numbers t
 alter-numbers x g [] = refl
@@ -155,7 +148,7 @@ module _ (y : ℕ) (d : Seat) where
   seat_order n (c ∷ t) e = go (seat_order (n + 1) t) (among y c.objects) e
     where
       go : (train_seat (n + 1) y t None ≡ Some d → n + 1 ≤ d.order) → (b : Bool)
-          → ◌≡◌ {A = Option Seat} (elim b [ true ↦ Some (record { order = n; number = c.number }) | false ↦ train_seat (n + 1) y t None ]) (Some d) → n ≤ d.order
+          → ◌≡◌ {A = Option Seat} (cond b (Some (record { order = n; number = c.number })) (train_seat (n + 1) y t None)) (Some d) → n ≤ d.order
       go more true q = let same : record { order = n; number = c.number } ≡ d = cc in subst (λ (v : Seat). n ≤ v.order) same (omega arith)
       go more false q = omega (arith, more q)
 
@@ -164,7 +157,7 @@ module _ (y : ℕ) (d : Seat) where
   seat-number n (c ∷ t) e = go (seat-number (n + 1) t) (among y c.objects) e
     where
       go : (train_seat (n + 1) y t None ≡ Some d → one_of d.number (car_numbers t) ≡ true) → (b : Bool)
-          → ◌≡◌ {A = Option Seat} (elim b [ true ↦ Some (record { order = n; number = c.number }) | false ↦ train_seat (n + 1) y t None ]) (Some d) → one_of d.number (c.number ∷ car_numbers t) ≡ true
+          → ◌≡◌ {A = Option Seat} (cond b (Some (record { order = n; number = c.number })) (train_seat (n + 1) y t None)) (Some d) → one_of d.number (c.number ∷ car_numbers t) ≡ true
       go more true q =
           let same : record { order = n; number = c.number } ≡ d = cc in
           subst (λ (v : Seat). one_of v.number (c.number ∷ car_numbers t) ≡ true) same (one_of_here c.number (car_numbers t))
@@ -175,15 +168,15 @@ module _ (y : ℕ) (d : Seat) where
   seat_lies n (c ∷ t) e = go (seat_lies (n + 1) t) (among y c.objects) refl e
     where
       go : (train_seat (n + 1) y t None ≡ Some d → 1 ≤ times y (train_objects t)) → (b : Bool) → among y c.objects ≡ b
-          → ◌≡◌ {A = Option Seat} (elim b [ true ↦ Some (record { order = n; number = c.number }) | false ↦ train_seat (n + 1) y t None ]) (Some d) → 1 ≤ times y (train_objects (c ∷ t))
-      go more true a q = omega (arith, ltb-true 0 (times y c.objects) a, total-++ (is y) c.objects (train_objects t))
-      go more false a q = omega (arith, more q, total-++ (is y) c.objects (train_objects t))
+          → ◌≡◌ {A = Option Seat} (cond b (Some (record { order = n; number = c.number })) (train_seat (n + 1) y t None)) (Some d) → 1 ≤ times y (train_objects (c ∷ t))
+      go more true a q = omega (arith, sums, ltb-true 0 (times y c.objects) a)
+      go more false a q = omega (arith, sums, more q)
 
 pub seat_found : (n y : ℕ) (t : Train) → 1 ≤ times y (train_objects t) → (d : Seat) × (train_seat n y t None ≡ Some d)
 seat_found n y [] h = absurd (omega arith)
 seat_found n y (c ∷ t) h = go (seat_found (n + 1) y t) (among y c.objects) refl
   where
     go : (1 ≤ times y (train_objects t) → (d : Seat) × (train_seat (n + 1) y t None ≡ Some d)) → (b : Bool) → among y c.objects ≡ b
-        → (d : Seat) × (◌≡◌ {A = Option Seat} (elim b [ true ↦ Some (record { order = n; number = c.number }) | false ↦ train_seat (n + 1) y t None ]) (Some d))
+        → (d : Seat) × (◌≡◌ {A = Option Seat} (cond b (Some (record { order = n; number = c.number })) (train_seat (n + 1) y t None)) (Some d))
     go more true a = (record { order = n; number = c.number }, refl)
-    go more false a = more (omega (arith, ltb-false 0 (times y c.objects) a, total-++ (is y) c.objects (train_objects t)))
+    go more false a = more (omega (arith, sums, ltb-false 0 (times y c.objects) a))

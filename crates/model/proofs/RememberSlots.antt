@@ -1,19 +1,20 @@
 -- What holds of each reference in a row of cars, and that it still does when objects are placed or changed.
 use Rattle.std.proofs.Common.{◌≡◌, ℕ, zero, suc, ◌+◌, ◌*◌, ◌<◌, ◌≤◌, Bool, true, false, cond, ◌&&◌, eqb, List, [], ◌∷◌, ◌++◌, get_or, set, Some, None, Option, refl, ap, ◌∙◌, subst, inl, inr, arith}
 use Rattle.std.proofs.lemmas.Bool.{both_ways, eqb-true, eq-eqb, and_from, lt-ltb, ltb-true, cases_lt}
+use Rattle.std.specs.List.{AllByRecursion}
+use Rattle.std.specs.Prelude.{map}
 use Rattle.layout.specs.Meaning.{Meaning}
 use Rattle.remembered.specs.Meaning.{Row}
 use Rattle.remembered.specs.Meaning.{Meaning as Remembers}
 use Rattle.model.specs.Bodies.{Shape, Body, size, with_ref, with_value}
-use Rattle.model.specs.Trains.{Obj, Car, Train, train_objects, times, is, one_if, among, car_numbers, one_of, with_object, opened, alter_object, alter_objects, alter_train, car_words}
+use Rattle.model.specs.Trains.{Obj, Car, Train, train_objects, times, among, car_numbers, one_of, with_object, opened, alter_object, alter_train, car_words}
 use Rattle.model.specs.Notes.{Seat, train_seat, Slot, ref_slots, object_slots, train_slots}
-use Rattle.model.specs.Remembered.{EachSlot}
-use Rattle.model.proofs.Totals.{total-++}
-use Rattle.model.specs.Sound.{All}
-use Rattle.model.proofs.Alls.{all_left, all_right}
+use Rattle.model.proofs.Alls.{all_left, all_right, all_++, all_with}
 use Rattle.model.proofs.Alters.{alter-times, alter-size}
 use Rattle.model.proofs.Distinct.{one_of_here, one_of_there}
 use Rattle.model.proofs.RememberCars.{Placed, opens, joins, later, seat_order, seat_lies}
+use Rattle.model.proofs.Totals.{is, one_if}
+use Rattle.model.proofs.Totals.{sums}
 
 -- Q of each reference, by its address, its holder, its number and what it holds
 abbrev pub InRefs : Meaning → (ℕ → ℕ → ℕ → Option ℕ → Type 0) → Shape → (x a i : ℕ) → List (Option ℕ) → Type 0
@@ -50,17 +51,17 @@ module _ (M : Meaning) (Q : ℕ → ℕ → ℕ → Option ℕ → Type 0) where
   refs_from s x a j [] f = tt
   refs_from s x a j (h ∷ hs) f = (f zero (a + M.ref_offset s.kind s.refs s.words j) j, refs_from s x a (j + 1) hs (λ i. f (suc i)))
 
-  objects_from : (a : ℕ) (os : List Obj) → All (λ o. (i b k : ℕ) → Q b o.id k (get_or o.body.refs i None)) os → InObjects M Q a os
+  objects_from : (a : ℕ) (os : List Obj) → AllByRecursion (λ o. (i b k : ℕ) → Q b o.id k (get_or o.body.refs i None)) os → InObjects M Q a os
   objects_from a [] p = tt
   objects_from a (o ∷ os) p = (refs_from o.body.shape o.id a 0 o.body.refs p.0, objects_from (a + size o.body) os p.1)
 
-  pub cars_from : (t : Train) → All (λ o. (i b k : ℕ) → Q b o.id k (get_or o.body.refs i None)) (train_objects t) → InCars M Q t
+  pub cars_from : (t : Train) → AllByRecursion (λ o. (i b k : ℕ) → Q b o.id k (get_or o.body.refs i None)) (train_objects t) → InCars M Q t
   cars_from [] p = tt
   cars_from (c ∷ cs) p =
       (objects_from (car_words * c.number) c.objects (all_left _ c.objects (train_objects cs) p), cars_from cs (all_right _ c.objects (train_objects cs) p))
 
   module _ (f : (a x i : ℕ) (h : Option ℕ) → Q a x i h) where
-    each_of : (os : List Obj) → All (λ o. (i b k : ℕ) → Q b o.id k (get_or o.body.refs i None)) os
+    each_of : (os : List Obj) → AllByRecursion (λ o. (i b k : ℕ) → Q b o.id k (get_or o.body.refs i None)) os
     each_of [] = tt
     each_of (o ∷ os) = ((λ i b k. f b o.id k (get_or o.body.refs i None)), each_of os)
 
@@ -79,80 +80,64 @@ module _ (M : Meaning) (Q : ℕ → ℕ → ℕ → Option ℕ → Type 0) where
 
 -- The slots in order.
 
-pub slot_++ : (P : Slot → Type 0) (ss us : List Slot) → EachSlot P ss → EachSlot P us → EachSlot P (ss ++ us)
-slot_++ P [] us p q = q
-slot_++ P (s ∷ ss) us p q = (p.0, slot_++ P ss us p.1 q)
-
-pub slot_left : (P : Slot → Type 0) (ss us : List Slot) → EachSlot P (ss ++ us) → EachSlot P ss
-slot_left P [] us p = tt
-slot_left P (s ∷ ss) us p = (p.0, slot_left P ss us p.1)
-
-pub slot_right : (P : Slot → Type 0) (ss us : List Slot) → EachSlot P (ss ++ us) → EachSlot P us
-slot_right P [] us p = p
-slot_right P (s ∷ ss) us p = slot_right P ss us p.1
-
-pub slot_with : (P Q R : Slot → Type 0) → ((s : Slot) → P s → Q s → R s) → (ss : List Slot) → EachSlot P ss → EachSlot Q ss → EachSlot R ss
-slot_with P Q R f [] p q = tt
-slot_with P Q R f (s ∷ ss) p q = (f s p.0 q.0, slot_with P Q R f ss p.1 q.1)
-
 abbrev pub By : (ℕ → ℕ → ℕ → Option ℕ → Type 0) → Slot → Type 0
 By Q s = Q s.address s.holder s.index s.target
 
 module _ (M : Meaning) (Q : ℕ → ℕ → ℕ → Option ℕ → Type 0) where
-  refs_slots : (s : Shape) (n x a i : ℕ) (hs : List (Option ℕ)) → InRefs M Q s x a i hs → EachSlot (By Q) (ref_slots M s n x a i hs)
+  refs_slots : (s : Shape) (n x a i : ℕ) (hs : List (Option ℕ)) → InRefs M Q s x a i hs → AllByRecursion (By Q) (ref_slots M s n x a i hs)
   refs_slots s n x a i [] p = tt
   refs_slots s n x a i (h ∷ hs) p = (p.0, refs_slots s n x a (i + 1) hs p.1)
 
-  objects-slots : (n a : ℕ) (os : List Obj) → InObjects M Q a os → EachSlot (By Q) (object_slots M n a os)
+  objects-slots : (n a : ℕ) (os : List Obj) → InObjects M Q a os → AllByRecursion (By Q) (object_slots M n a os)
   objects-slots n a [] p = tt
   objects-slots n a (o ∷ os) p =
-      slot_++ (By Q) (ref_slots M o.body.shape n o.id a 0 o.body.refs) (object_slots M n (a + size o.body) os)
+      all_++ (By Q) (ref_slots M o.body.shape n o.id a 0 o.body.refs) (object_slots M n (a + size o.body) os)
       (refs_slots o.body.shape n o.id a 0 o.body.refs p.0) (objects-slots n (a + size o.body) os p.1)
 
-  pub cars_slots : (n : ℕ) (t : Train) → InCars M Q t → EachSlot (By Q) (train_slots M n t)
+  pub cars_slots : (n : ℕ) (t : Train) → InCars M Q t → AllByRecursion (By Q) (train_slots M n t)
   cars_slots n [] p = tt
   cars_slots n (c ∷ cs) p =
-      slot_++ (By Q) (object_slots M n (car_words * c.number) c.objects) (train_slots M (n + 1) cs)
+      all_++ (By Q) (object_slots M n (car_words * c.number) c.objects) (train_slots M (n + 1) cs)
       (objects-slots n (car_words * c.number) c.objects p.0) (cars_slots (n + 1) cs p.1)
 
-  slots_refs : (s : Shape) (n x a i : ℕ) (hs : List (Option ℕ)) → EachSlot (By Q) (ref_slots M s n x a i hs) → InRefs M Q s x a i hs
+  slots_refs : (s : Shape) (n x a i : ℕ) (hs : List (Option ℕ)) → AllByRecursion (By Q) (ref_slots M s n x a i hs) → InRefs M Q s x a i hs
   slots_refs s n x a i [] p = tt
   slots_refs s n x a i (h ∷ hs) p = (p.0, slots_refs s n x a (i + 1) hs p.1)
 
-  slots-objects : (n a : ℕ) (os : List Obj) → EachSlot (By Q) (object_slots M n a os) → InObjects M Q a os
+  slots-objects : (n a : ℕ) (os : List Obj) → AllByRecursion (By Q) (object_slots M n a os) → InObjects M Q a os
   slots-objects n a [] p = tt
   slots-objects n a (o ∷ os) p =
       let A = ref_slots M o.body.shape n o.id a 0 o.body.refs in
       let B = object_slots M n (a + size o.body) os in
-      (slots_refs o.body.shape n o.id a 0 o.body.refs (slot_left (By Q) A B p), slots-objects n (a + size o.body) os (slot_right (By Q) A B p))
+      (slots_refs o.body.shape n o.id a 0 o.body.refs (all_left (By Q) A B p), slots-objects n (a + size o.body) os (all_right (By Q) A B p))
 
-  pub slots_cars : (n : ℕ) (t : Train) → EachSlot (By Q) (train_slots M n t) → InCars M Q t
+  pub slots_cars : (n : ℕ) (t : Train) → AllByRecursion (By Q) (train_slots M n t) → InCars M Q t
   slots_cars n [] p = tt
   slots_cars n (c ∷ cs) p =
       let A = object_slots M n (car_words * c.number) c.objects in
       let B = train_slots M (n + 1) cs in
-      (slots-objects n (car_words * c.number) c.objects (slot_left (By Q) A B p), slots_cars (n + 1) cs (slot_right (By Q) A B p))
+      (slots-objects n (car_words * c.number) c.objects (all_left (By Q) A B p), slots_cars (n + 1) cs (all_right (By Q) A B p))
 
 module _ (M : Meaning) where
   module _ (P : Slot → Type 0) (n : ℕ) (f : (s : Slot) → s.order ≡ n → P s) where
-    refs_order : (s : Shape) (x a i : ℕ) (hs : List (Option ℕ)) → EachSlot P (ref_slots M s n x a i hs)
+    refs_order : (s : Shape) (x a i : ℕ) (hs : List (Option ℕ)) → AllByRecursion P (ref_slots M s n x a i hs)
     refs_order s x a i [] = tt
     refs_order s x a i (h ∷ hs) = (f _ refl, refs_order s x a (i + 1) hs)
 
     -- the slots of a car have its place
-    pub objects_order : (a : ℕ) (os : List Obj) → EachSlot P (object_slots M n a os)
+    pub objects_order : (a : ℕ) (os : List Obj) → AllByRecursion P (object_slots M n a os)
     objects_order a [] = tt
     objects_order a (o ∷ os) =
-        slot_++ P (ref_slots M o.body.shape n o.id a 0 o.body.refs) (object_slots M n (a + size o.body) os)
+        all_++ P (ref_slots M o.body.shape n o.id a 0 o.body.refs) (object_slots M n (a + size o.body) os)
         (refs_order o.body.shape o.id a 0 o.body.refs) (objects_order (a + size o.body) os)
 
-  pub train_order : (n : ℕ) (t : Train) → EachSlot (λ s. n ≤ s.order) (train_slots M n t)
+  pub train_order : (n : ℕ) (t : Train) → AllByRecursion (λ s. n ≤ s.order) (train_slots M n t)
   train_order n [] = tt
   train_order n (c ∷ cs) =
       let more = train_order (n + 1) cs in
-      slot_++ (λ s. n ≤ s.order) (object_slots M n (car_words * c.number) c.objects) (train_slots M (n + 1) cs)
+      all_++ (λ s. n ≤ s.order) (object_slots M n (car_words * c.number) c.objects) (train_slots M (n + 1) cs)
       (objects_order (λ s. n ≤ s.order) n (λ s e. omega (arith, e)) (car_words * c.number) c.objects)
-      (slot_with (λ s. n + 1 ≤ s.order) (λ s. n + 1 ≤ s.order) (λ s. n ≤ s.order) (λ s p q. omega (arith, p)) (train_slots M (n + 1) cs) more more)
+      (all_with (λ s. n + 1 ≤ s.order) (λ s. n + 1 ≤ s.order) (λ s. n ≤ s.order) (λ s p q. omega (arith, p)) (train_slots M (n + 1) cs) more more)
 
 -- What the set has of the references of E: those in a later car that hold an object of an earlier car c.
 
@@ -201,7 +186,7 @@ module _ (M : Meaning) (has : Remembers) (r : Row) (E : ℕ → ℕ → ℕ → 
     cars_with M (ToldOf has r E c) (ToldOf has r E c) (ToldOf has r E (with_object o c))
         (λ a x i h u v y e l k. elim (cases_lt 0 (times y c.objects)) [
           | inl m ↦ u y e (omega (arith, m)) k
-          | inr m ↦ absurd (not-held x i y (omega (arith, m, l, total-++ (is y) c.objects (o ∷ []))) k)
+          | inr m ↦ absurd (not-held x i y (omega (arith, sums, m, l)) k)
         ]) t p.0 p.0,
     p.1,
   )
@@ -215,11 +200,11 @@ module _ (M : Meaning) (has : Remembers) (r : Row) (E : ℕ → ℕ → ℕ → 
 
 module _ (M : Meaning) (x : ℕ) (g : Body → Body) (keeps : (b : Body) → size (g b) ≡ size b) where
   module _ (Q R : ℕ → ℕ → ℕ → Option ℕ → Type 0) (own : (o : Obj) (a : ℕ) → InObject M Q a o → InObject M R a (alter_object x g o)) where
-    objects_altered : (a : ℕ) (os : List Obj) → InObjects M Q a os → InObjects M R a (alter_objects x g os)
+    objects_altered : (a : ℕ) (os : List Obj) → InObjects M Q a os → InObjects M R a (map (alter_object x g) os)
     objects_altered a [] p = tt
     objects_altered a (o ∷ os) p =
         let e : a + size o.body ≡ a + size (alter_object x g o).body = omega (arith, alter-size x g keeps o) in
-        (own o a p.0, subst (λ (b : ℕ). InObjects M R b (alter_objects x g os)) e (objects_altered (a + size o.body) os p.1))
+        (own o a p.0, subst (λ (b : ℕ). InObjects M R b (map (alter_object x g) os)) e (objects_altered (a + size o.body) os p.1))
 
     pub cars_altered : (t : Train) → InCars M Q t → InCars M R (alter_train x g t)
     cars_altered [] p = tt
@@ -230,7 +215,7 @@ module _ (M : Meaning) (x : ℕ) (g : Body → Body) (keeps : (b : Body) → siz
     pub noted_altered : (t : Train) → Noted M has r E t → Noted M has r F (alter_train x g t)
     noted_altered [] p = tt
     noted_altered (c ∷ cs) p =
-        let d : Car = record { number = c.number; objects = alter_objects x g c.objects } in
+        let d : Car = record { number = c.number; objects = map (alter_object x g) c.objects } in
         let q = cars_altered (ToldOf has r E c) (ToldOf has r F c) (own c) cs p.0 in (
           cars_with M (ToldOf has r F c) (ToldOf has r F c) (ToldOf has r F d)
               (λ a z i h u v y e l k. u y e (omega (arith, l, alter-times x g y c.objects)) k) (alter_train x g cs) q q,
@@ -283,20 +268,20 @@ ToldSlot has r E n t s =
     (y : ℕ) (d : Seat) → s.target ≡ Some y → train_seat n y t None ≡ Some d → d.order < s.order → E s.holder s.index y → has r d.number s.address ≡ true
 
 module _ (M : Meaning) (has : Remembers) (r : Row) (E : ℕ → ℕ → ℕ → Type 0) where
-  pub noted_slots : (n : ℕ) (t : Train) → Noted M has r E t → EachSlot (ToldSlot has r E n t) (train_slots M n t)
+  pub noted_slots : (n : ℕ) (t : Train) → Noted M has r E t → AllByRecursion (ToldSlot has r E n t) (train_slots M n t)
   noted_slots n [] p = tt
   noted_slots n (c ∷ cs) p =
-      slot_++ (ToldSlot has r E n (c ∷ cs)) (object_slots M n (car_words * c.number) c.objects) (train_slots M (n + 1) cs)
+      all_++ (ToldSlot has r E n (c ∷ cs)) (object_slots M n (car_words * c.number) c.objects) (train_slots M (n + 1) cs)
       (objects_order M (ToldSlot has r E n (c ∷ cs)) n
       (λ s e y d q w l k. absurd (omega (arith, e, l, seat_order y d n (c ∷ cs) w))) (car_words * c.number) c.objects)
-      (slot_with (ToldSlot has r E (n + 1) cs) (By (ToldOf has r E c)) (ToldSlot has r E n (c ∷ cs)) join (train_slots M (n + 1) cs)
+      (all_with (ToldSlot has r E (n + 1) cs) (By (ToldOf has r E c)) (ToldSlot has r E n (c ∷ cs)) join (train_slots M (n + 1) cs)
       (noted_slots (n + 1) cs p.1) (cars_slots M (ToldOf has r E c) (n + 1) cs p.0))
     where
       join : (s : Slot) → ToldSlot has r E (n + 1) cs s → By (ToldOf has r E c) s → ToldSlot has r E n (c ∷ cs) s
       join s u v y d q w l k = go (among y c.objects) refl w
         where
           go : (b : Bool) → among y c.objects ≡ b
-              → ◌≡◌ {A = Option Seat} (elim b [ true ↦ Some (record { order = n; number = c.number }) | false ↦ train_seat (n + 1) y cs None ]) (Some d)
+              → ◌≡◌ {A = Option Seat} (cond b (Some (record { order = n; number = c.number })) (train_seat (n + 1) y cs None)) (Some d)
               → has r d.number s.address ≡ true
           go true a z =
               let same : record { order = n; number = c.number } ≡ d = cc in
@@ -304,21 +289,21 @@ module _ (M : Meaning) (has : Remembers) (r : Row) (E : ℕ → ℕ → ℕ → 
           go false a z = u y d q z l k
 
   -- where each object lies in one car
-  pub slots_noted : (n : ℕ) (t : Train) → ((y : ℕ) → times y (train_objects t) ≤ 1) → EachSlot (ToldSlot has r E n t) (train_slots M n t) → Noted M has r E t
+  pub slots_noted : (n : ℕ) (t : Train) → ((y : ℕ) → times y (train_objects t) ≤ 1) → AllByRecursion (ToldSlot has r E n t) (train_slots M n t) → Noted M has r E t
   slots_noted n [] once p = tt
   slots_noted n (c ∷ cs) once p =
-      let rest = slot_right (ToldSlot has r E n (c ∷ cs)) (object_slots M n (car_words * c.number) c.objects) (train_slots M (n + 1) cs) p in (
+      let rest = all_right (ToldSlot has r E n (c ∷ cs)) (object_slots M n (car_words * c.number) c.objects) (train_slots M (n + 1) cs) p in (
         slots_cars M (ToldOf has r E c) (n + 1) cs
-            (slot_with (ToldSlot has r E n (c ∷ cs)) (λ s. n + 1 ≤ s.order) (By (ToldOf has r E c)) here (train_slots M (n + 1) cs) rest (train_order M (n + 1) cs)),
-        slots_noted (n + 1) cs (λ y. omega (arith, once y, total-++ (is y) c.objects (train_objects cs)))
-            (slot_with (ToldSlot has r E n (c ∷ cs)) (ToldSlot has r E n (c ∷ cs)) (ToldSlot has r E (n + 1) cs) there (train_slots M (n + 1) cs) rest rest),
+            (all_with (ToldSlot has r E n (c ∷ cs)) (λ s. n + 1 ≤ s.order) (By (ToldOf has r E c)) here (train_slots M (n + 1) cs) rest (train_order M (n + 1) cs)),
+        slots_noted (n + 1) cs (λ y. omega (arith, sums, once y))
+            (all_with (ToldSlot has r E n (c ∷ cs)) (ToldSlot has r E n (c ∷ cs)) (ToldSlot has r E (n + 1) cs) there (train_slots M (n + 1) cs) rest rest),
       )
     where
       seat_here : (y : ℕ) → among y c.objects ≡ true → train_seat n y (c ∷ cs) None ≡ Some (record { order = n; number = c.number })
-      seat_here y e = ap (λ (b : Bool). elim b [ true ↦ Some (record { order = n; number = c.number }) | false ↦ train_seat (n + 1) y cs None ]) e
+      seat_here y e = ap (λ (b : Bool). cond b (Some (record { order = n; number = c.number })) (train_seat (n + 1) y cs None)) e
 
       seat_there : (y : ℕ) → among y c.objects ≡ false → train_seat n y (c ∷ cs) None ≡ train_seat (n + 1) y cs None
-      seat_there y e = ap (λ (b : Bool). elim b [ true ↦ Some (record { order = n; number = c.number }) | false ↦ train_seat (n + 1) y cs None ]) e
+      seat_there y e = ap (λ (b : Bool). cond b (Some (record { order = n; number = c.number })) (train_seat (n + 1) y cs None)) e
 
       here : (s : Slot) → ToldSlot has r E n (c ∷ cs) s → n + 1 ≤ s.order → By (ToldOf has r E c) s
       here s u h y e l k = u y (record { order = n; number = c.number }) e (seat_here y (lt-ltb 0 (times y c.objects) (omega (arith, l)))) (omega (arith, h)) k
@@ -328,5 +313,5 @@ module _ (M : Meaning) (has : Remembers) (r : Row) (E : ℕ → ℕ → ℕ → 
         where
           go : (b : Bool) → among y c.objects ≡ b → has r d.number s.address ≡ true
           go true a =
-              absurd (omega (arith, once y, ltb-true 0 (times y c.objects) a, seat_lies y d (n + 1) cs w, total-++ (is y) c.objects (train_objects cs)))
+              absurd (omega (arith, sums, once y, ltb-true 0 (times y c.objects) a, seat_lies y d (n + 1) cs w))
           go false a = u y d e (seat_there y a ∙ w) l k

@@ -1,39 +1,42 @@
 -- The space and the plain graph go together.
-use Rattle.std.proofs.Common.{◌≡◌, ℕ, zero, suc, ◌+◌, ◌<◌, ◌≤◌, Bool, true, false, cond, eqb, List, [], ◌∷◌, ◌++◌, length, get_or, set, Some, None, Option, sym, refl, ap, ◌∙◌, subst, ap₂, arith, length-append}
+use Rattle.std.proofs.Common.{◌≡◌, ℕ, zero, suc, ◌+◌, ◌<◌, ◌≤◌, Bool, true, false, cond, eqb, List, [], ◌∷◌, ◌++◌, length, get_or, set, Some, None, Option, sym, refl, ap, ◌∙◌, subst, ap₂, arith, length-append, not}
 use Rattle.std.proofs.lemmas.Bool.{eqb-true, eqb-false, leb-false, lt-leb, both_ways}
+use Rattle.std.specs.List.{AllByRecursion}
+use Rattle.std.specs.Prelude.{slice_get, option_map, find}
 use Rattle.layout.specs.Meaning.{Meaning, Lawful}
 use Rattle.remembered.specs.Meaning.{Meaning as Remembers}
 use Rattle.model.specs.Calls.{Call, make, access, step, tally, Access, link, follow, drop, put, lift, get, words, same, full, refused, Answer, History, is_full}
-use Rattle.model.specs.Bodies.{Body, Roots, held, fresh, size, with_ref, with_value, is_root, Effect, leave, hold, point, store, Reply, object_of, with_body, reply_of}
-use Rattle.model.specs.Plain.{Graph, no_entries, entry, alter_entry, with_effect, plain_make, plain, graph_of}
-use Rattle.model.specs.Trains.{Obj, Train, Trains, train_objects, objects, words_in_use, times, is, one_if, inside, alter, alter_object, arrival, numbers, lowest_free, capacity}
+use Rattle.model.specs.Bodies.{Body, Roots, held, fresh, size, with_ref, with_value, is_root, Effect, leave, hold, point, store, Reply, object_of, reply_of, make_outcome}
+use Rattle.model.specs.Plain.{Graph, no_entries, alter_entry, with_effect, plain, graph_of, with_entry}
+use Rattle.model.specs.Trains.{Obj, Train, Trains, train_objects, objects, words_in_use, times, inside, alter, alter_object, arrival, numbers, lowest_free, capacity}
 use Rattle.model.specs.Claims.{Wish}
 use Rattle.model.specs.Step.{first_to, outside}
-use Rattle.model.specs.Space.{Model, opening, all_objects, space_make, made_by, has_room, space_with, step_by, step_on, act, space_of, Use}
+use Rattle.model.specs.Space.{Model, opening, all_objects, made_by, has_room, space_with, step_by, step_on, act, space_of, Use}
 use Rattle.model.specs.Reach.{by_root, by_ref, GraphReaches, SpaceReaches}
 use Rattle.model.specs.Laws.{PlainAnswer, PlainAnswers, FullExactly, FullExactlyWhen, SameReach, AnswersAreThePlainGraphs}
-use Rattle.model.specs.Sound.{All, Sound}
-use Rattle.model.proofs.Alls.{all_right, place_at_all}
+use Rattle.model.specs.Sound.{Sound}
+use Rattle.model.proofs.Alls.{all_right, place_at_all, all_map}
 use Rattle.model.proofs.Alters.{objects-alter, alter_all}
-use Rattle.model.proofs.Keeps.{all_map, inside_body, step_all, sound_of}
+use Rattle.model.proofs.Keeps.{inside_body, step_all, sound_of}
+use Rattle.model.proofs.Totals.{is, one_if, sums}
 
--- an object has inside what its entry has
+-- an object has inside what its slice_get has
 abbrev pub Twin : List Body → Obj → Type 0
-Twin es o = entry es o.id ≡ Some o.body
+Twin es o = slice_get es o.id ≡ Some o.body
 
 pub record Sim (g : Graph) (m : Model) : Type 0 where
   pub roots : m.roots ≡ g.roots
   pub made : m.made ≡ length g.entries
-  pub twins : All (Twin g.entries) (all_objects m)
+  pub twins : AllByRecursion (Twin g.entries) (all_objects m)
 
--- what is found in the cars is the entry
-pub inside-entry : (es : List Body) (os : List Obj) (x : ℕ) → All (Twin es) os → 1 ≤ times x os → inside os x ≡ entry es x
+-- what is found in the cars is the slice_get
+pub inside-entry : (es : List Body) (os : List Obj) (x : ℕ) → AllByRecursion (Twin es) os → 1 ≤ times x os → inside os x ≡ slice_get es x
 inside-entry es [] x a h = absurd (omega (arith, h))
 inside-entry es (o ∷ os) x a h = go (inside-entry es os x a.1) (eqb x o.id) refl
   where
-    go : (1 ≤ times x os → inside os x ≡ entry es x) → (b : Bool) → eqb x o.id ≡ b → ◌≡◌ {A = Option Body} (elim b [ true ↦ Some o.body | false ↦ inside os x ]) (entry es x)
-    go more true q = sym a.0 ∙ ap (entry es) (sym (eqb-true x o.id q))
-    go more false q = let z : is x o ≡ 0 = ap one_if q in more (omega (arith, h, z))
+    go : (1 ≤ times x os → inside os x ≡ slice_get es x) → (b : Bool) → eqb x o.id ≡ b → option_map (λ p. p.body) (cond b (Some o) (find (λ p. eqb x p.id) os)) ≡ slice_get es x
+    go more true q = sym a.0 ∙ ap (slice_get es) (sym (eqb-true x o.id q))
+    go more false q = let z : is x o ≡ 0 = ap one_if q in more (omega (arith, sums, h, z))
 
 -- a call's answer and effect depend only on what is found for the roots' objects
 module _ (find other : ℕ → Option Body) (rs : Roots) (agree : (r x : ℕ) → held rs r ≡ Some x → find x ≡ other x) where
@@ -42,7 +45,7 @@ module _ (find other : ℕ → Option Body) (rs : Roots) (agree : (r x : ℕ) �
     where
       go : (h : Option ℕ) → held rs r ≡ h → object_of find h ≡ object_of other h
       go None e = refl
-      go (Some x) e = ap (with_body x) (agree r x e)
+      go (Some x) e = ap (option_map (λ (b : Body). (x, b))) (agree r x e)
 
   pub reply_agrees : (c : Access) → reply_of find rs c ≡ reply_of other rs c
   reply_agrees (link r i q) = rw (object_agrees r)
@@ -54,21 +57,21 @@ module _ (find other : ℕ → Option Body) (rs : Roots) (agree : (r x : ℕ) �
   reply_agrees (words r n) = rw (object_agrees r)
   reply_agrees (same r q) = refl
 
-entry_front : (es : List Body) (b c : Body) (x : ℕ) → entry es x ≡ Some c → entry (es ++ (b ∷ [])) x ≡ Some c
+entry_front : (es : List Body) (b c : Body) (x : ℕ) → slice_get es x ≡ Some c → slice_get (es ++ (b ∷ [])) x ≡ Some c
 entry_front [] b c x e = let z : ◌≡◌ {A = ℕ} 0 1 = cc in absurd (omega arith)
 entry_front (d ∷ es) b c zero e = e
 entry_front (d ∷ es) b c (suc x) e = entry_front es b c x e
 
-entry_last : (es : List Body) (b : Body) → entry (es ++ (b ∷ [])) (length es) ≡ Some b
+entry_last : (es : List Body) (b : Body) → slice_get (es ++ (b ∷ [])) (length es) ≡ Some b
 entry_last [] b = refl
 entry_last (d ∷ es) b = entry_last es b
 
-alter_same : (es : List Body) (x : ℕ) (f : Body → Body) (b : Body) → entry es x ≡ Some b → entry (alter_entry x f es) x ≡ Some (f b)
+alter_same : (es : List Body) (x : ℕ) (f : Body → Body) (b : Body) → slice_get es x ≡ Some b → slice_get (alter_entry x f es) x ≡ Some (f b)
 alter_same [] x f b e = let z : ◌≡◌ {A = ℕ} 0 1 = cc in absurd (omega arith)
 alter_same (d ∷ es) zero f b e = let q : d ≡ b = cc in ap (λ c. Some (f c)) q
 alter_same (d ∷ es) (suc x) f b e = alter_same es x f b e
 
-alter_other : (es : List Body) (x y : ℕ) (f : Body → Body) → (x ≡ y → ⊥) → entry (alter_entry x f es) y ≡ entry es y
+alter_other : (es : List Body) (x y : ℕ) (f : Body → Body) → (x ≡ y → ⊥) → slice_get (alter_entry x f es) y ≡ slice_get es y
 alter_other [] x y f ne = refl
 alter_other (d ∷ es) zero zero f ne = absurd (ne refl)
 alter_other (d ∷ es) zero (suc y) f ne = refl
@@ -80,18 +83,18 @@ alter-length [] x f = refl
 alter-length (d ∷ es) zero f = refl
 alter-length (d ∷ es) (suc x) f = omega (arith, alter-length es x f)
 
--- an object and its entry are changed alike
+-- an object and its slice_get are changed alike
 twin_alter : (es : List Body) (x : ℕ) (f : Body → Body) (o : Obj) → Twin es o → Twin (alter_entry x f es) (alter_object x f o)
 twin_alter es x f o t = go (eqb x o.id) refl
   where
-    go : (b : Bool) → eqb x o.id ≡ b → entry (alter_entry x f es) o.id ≡ Some (cond b (f o.body) o.body)
+    go : (b : Bool) → eqb x o.id ≡ b → slice_get (alter_entry x f es) o.id ≡ Some (cond b (f o.body) o.body)
     go true q =
         let e : x ≡ o.id = eqb-true x o.id q in
-        ap (λ y. entry (alter_entry y f es) o.id) e ∙ alter_same es o.id f o.body t
+        ap (λ y. slice_get (alter_entry y f es) o.id) e ∙ alter_same es o.id f o.body t
     go false q = alter_other es x o.id f (eqb-false x o.id q) ∙ t
 
-twins_alter : (es : List Body) (x : ℕ) (f : Body → Body) (ts : Trains) → All (Twin es) (objects ts) → All (Twin (alter_entry x f es)) (objects (alter x f ts))
-twins_alter es x f ts a = subst (All (Twin (alter_entry x f es))) (sym (objects-alter x f ts)) (alter_all x f (Twin es) (Twin (alter_entry x f es)) (twin_alter es x f) (objects ts) a)
+twins_alter : (es : List Body) (x : ℕ) (f : Body → Body) (ts : Trains) → AllByRecursion (Twin es) (objects ts) → AllByRecursion (Twin (alter_entry x f es)) (objects (alter x f ts))
+twins_alter es x f ts a = subst (AllByRecursion (Twin (alter_entry x f es))) (sym (objects-alter x f ts)) (alter_all x f (Twin es) (Twin (alter_entry x f es)) (twin_alter es x f) (objects ts) a)
 
 effect_sim : (M : Meaning) (e : Effect) (g : Graph) (m : Model) → Sim g m → Sim (with_effect e g) (space_with M e m)
 effect_sim M leave g m s = s
@@ -108,7 +111,7 @@ effect_sim M (store x w v) g m s = record {
 }
 
 made_sim : (b : Body) (r : ℕ) (g : Graph) (m : Model) → Sim g m
-    → Sim (record { entries = g.entries ++ (b ∷ []); roots = set g.roots r (Some (length g.entries)) }) (made_by b r m)
+    → Sim (with_entry b r g) (made_by b r m)
 made_sim b r g m s =
     let o : Obj = record { id = m.made; body = b } in
     record {
@@ -116,7 +119,7 @@ made_sim b r g m s =
       made = simp length-append (omega (arith, s.made));
       twins = place_at_all (Twin (g.entries ++ (b ∷ []))) (arrival m.trains) (lowest_free (numbers m.trains)) o m.trains
           (all_map _ _ (λ p t. entry_front g.entries b p.body p.id t) (all_objects m) s.twins)
-          (ap (entry (g.entries ++ (b ∷ []))) s.made ∙ entry_last g.entries b);
+          (ap (slice_get (g.entries ++ (b ∷ []))) s.made ∙ entry_last g.entries b);
     }
 
 -- the answer to a call is the graph's, and the graph goes with the space after it, told only whether the answer was full
@@ -130,8 +133,8 @@ no_make M c a m h = record { only = λ r k x y e q. absurd (h r k x y e); always
 
 abbrev Made : Meaning → (a b c : Bool) → (r k x y : ℕ) → Graph → Model → Type 0
 Made M a b c r k x y g m =
-    let o = space_make a b c (fresh M k x y) r m in
-    let p = plain_make a b (is_full o.answer) (fresh M k x y) r g in
+    let o = make_outcome a b (not c) m (made_by (fresh M k x y) r m) in
+    let p = make_outcome a b (is_full o.answer) g (with_entry (fresh M k x y) r g) in
     Sim p.state o.state × (o.answer ≡ p.answer) × (o.answer ≡ refused full → c ≡ false) × (a ≡ true → b ≡ true → c ≡ false → o.answer ≡ refused full)
 
 made : (M : Meaning) (a b c : Bool) (r k x y : ℕ) (g : Graph) (m : Model) → Sim g m → Made M a b c r k x y g m
@@ -143,9 +146,9 @@ made M true true true r k x y g m s =
 
 step_sim : (M : Meaning) (has : Remembers) (g : Graph) (ts : Trains) (m : Model) → Sim g m → m.trains ≡ ts → Sim g (step_on M has ts m).state
 step_sim M has g [] m s e = s
-step_sim M has g (t ∷ ts) m s e = go (first_to (train_objects t) (outside m.roots (t ∷ ts) ts)) t (subst (λ us. All (Twin g.entries) (objects us)) e s.twins)
+step_sim M has g (t ∷ ts) m s e = go (first_to (train_objects t) (outside m.roots (t ∷ ts) ts)) t (subst (λ us. AllByRecursion (Twin g.entries) (objects us)) e s.twins)
   where
-    go : (w : Option Wish) (u : Train) → All (Twin g.entries) (objects (u ∷ ts)) → Sim g (step_by M has w u ts m).state
+    go : (w : Option Wish) (u : Train) → AllByRecursion (Twin g.entries) (objects (u ∷ ts)) → Sim g (step_by M has w u ts m).state
     go None u a = record { roots = s.roots; made = s.made; twins = all_right (Twin g.entries) (train_objects u) (objects ts) a }
     go (Some w) [] a = record { roots = s.roots; made = s.made; twins = a }
     go (Some w) (f ∷ cs) a = record { roots = s.roots; made = s.made; twins = step_all (Twin g.entries) f cs ts m a }
@@ -181,9 +184,9 @@ module _ (M : Meaning) (has : Remembers) where
   together_access : (c : Access) (g : Graph) (m : Model) → Sim g m → Sound m → (a : Answer) → a ≡ (act M has (access c) m).answer → Together M has (access c) a g m
   together_access c g m s ok a e =
       let es = g.entries in
-      let agree : reply_of (inside (all_objects m)) m.roots c ≡ reply_of (entry es) m.roots c =
-      reply_agrees (inside (all_objects m)) (entry es) m.roots (λ r x h. inside-entry es (all_objects m) x s.twins (ok.roots r x h)) c in
-      let alike : reply_of (inside (all_objects m)) m.roots c ≡ reply_of (entry es) g.roots c = agree ∙ ap (λ rs. reply_of (entry es) rs c) s.roots in
+      let agree : reply_of (inside (all_objects m)) m.roots c ≡ reply_of (slice_get es) m.roots c =
+      reply_agrees (inside (all_objects m)) (slice_get es) m.roots (λ r x h. inside-entry es (all_objects m) x s.twins (ok.roots r x h)) c in
+      let alike : reply_of (inside (all_objects m)) m.roots c ≡ reply_of (slice_get es) g.roots c = agree ∙ ap (λ rs. reply_of (slice_get es) rs c) s.roots in
       record {
         sim = subst (λ (p : Reply). Sim (with_effect p.effect g) (space_with M (reply_of (inside (all_objects m)) m.roots c).effect m)) alike
             (effect_sim M (reply_of (inside (all_objects m)) m.roots c).effect g m s);

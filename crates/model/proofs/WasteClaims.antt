@@ -1,12 +1,11 @@
 -- What claims bring along: what holds of a wish, and goes from each object to all that it points at, holds of each claim.
-use Rattle.std.proofs.Common.{◌≡◌, ℕ, zero, suc, Bool, true, false, eqb, List, [], ◌∷◌, ◌++◌, length, get_or, Some, None, Option, refl, subst}
+use Rattle.std.proofs.Common.{◌≡◌, ℕ, zero, suc, Bool, true, false, eqb, List, [], ◌∷◌, ◌++◌, length, get_or, Some, None, Option, refl, subst, cond}
 use Rattle.std.proofs.lemmas.Bool.{eqb-true}
+use Rattle.std.specs.List.{AllByRecursion}
 use Rattle.model.specs.Trains.{Obj, Train, train_objects}
-use Rattle.model.specs.Claims.{sort_out, take_out, visit, close, claim, Wish, ref_wishes, object_wishes, train_wishes, Claim, all_to, claims}
-use Rattle.model.specs.Sound.{All, Points}
-use Rattle.model.proofs.Alls.{all_++, all_left, all_right, take_out_all, visit_all, claim_all}
-use Rattle.model.proofs.Closure.{Each, each_++}
-use Rattle.model.proofs.Keeps.{all_map}
+use Rattle.model.specs.Claims.{take_out, visit, close, claim, Wish, ref_wishes, object_wishes, train_wishes, Claim, all_to, claims}
+use Rattle.model.specs.Sound.{Points}
+use Rattle.model.proofs.Alls.{all_++, all_left, all_right, take_out_all, visit_all, claim_all, all_map}
 
 module _ (Q : ℕ → Type 0) where
   abbrev pub Of : Obj → Type 0
@@ -15,45 +14,37 @@ module _ (Q : ℕ → Type 0) where
   abbrev pub Leads : Obj → Type 0
   Leads o = Q o.id → Points Q o
 
-  take_out_of : (x : ℕ) (os : List Obj) → Q x → All Of (take_out x os).objs
+  take_out_of : (x : ℕ) (os : List Obj) → Q x → AllByRecursion Of (take_out x os).taken
   take_out_of x [] q = tt
   take_out_of x (o ∷ os) q = go (take_out_of x os q) (eqb x o.id) refl
     where
-      go : All Of (take_out x os).objs → (b : Bool) → eqb x o.id ≡ b → All Of (sort_out b o (take_out x os)).objs
+      go : AllByRecursion Of (take_out x os).taken → (b : Bool) → eqb x o.id ≡ b → AllByRecursion Of (cond b (o ∷ (take_out x os).taken) (take_out x os).taken)
       go more true e = (subst Q (eqb-true x o.id e) q, more)
       go more false e = more
 
-  visit_of : (rs : List (Option ℕ)) (left : List Obj) → ((i y : ℕ) → get_or rs i None ≡ Some y → Q y) → All Of (visit rs left).objs
+  visit_of : (rs : List (Option ℕ)) (left : List Obj) → ((i y : ℕ) → get_or rs i None ≡ Some y → Q y) → AllByRecursion Of (visit rs left).taken
   visit_of [] left h = tt
   visit_of (None ∷ rs) left h = visit_of rs left (λ i y e. h (suc i) y e)
   visit_of (Some x ∷ rs) left h =
       let t = take_out x left in
-      all_++ Of t.objs (visit rs t.left).objs (take_out_of x left (h 0 x refl)) (visit_of rs t.left (λ i y e. h (suc i) y e))
+      all_++ Of t.taken (visit rs t.left).taken (take_out_of x left (h 0 x refl)) (visit_of rs t.left (λ i y e. h (suc i) y e))
 
-  close_of : (n : ℕ) (q left : List Obj) → All Of q → All Leads q → All Leads left → All Of (close n q left).objs
+  close_of : (n : ℕ) (q left : List Obj) → AllByRecursion Of q → AllByRecursion Leads q → AllByRecursion Leads left → AllByRecursion Of (close n q left).taken
   close_of zero q left a l h = tt
   close_of (suc n) [] left a l h = tt
   close_of (suc n) (o ∷ q) left a l h =
       let t = visit o.body.refs left in
       let v = visit_of o.body.refs left (l.0 a.0) in
       let k = visit_all Leads o.body.refs left h in
-      all_++ Of t.objs (close n (q ++ t.objs) t.left).objs v
-      (close_of n (q ++ t.objs) t.left (all_++ Of q t.objs a.1 v) (all_++ Leads q t.objs l.1 k.0) k.1)
+      all_++ Of t.taken (close n (q ++ t.taken) t.left).taken v
+      (close_of n (q ++ t.taken) t.left (all_++ Of q t.taken a.1 v) (all_++ Leads q t.taken l.1 k.0) k.1)
 
-  claim_of : (x : ℕ) (left : List Obj) → Q x → All Leads left → All Of (claim x left).objs
+  claim_of : (x : ℕ) (left : List Obj) → Q x → AllByRecursion Leads left → AllByRecursion Of (claim x left).taken
   claim_of x left q h =
       let t = take_out x left in
       let a = take_out_of x left q in
       let k = take_out_all Leads x left h in
-      all_++ Of t.objs (close (length left) t.objs t.left).objs a (close_of (length left) t.objs t.left a k.0 k.1)
-
-abbrev pub EachClaim : (Claim → Type 0) → List Claim → Type 0
-EachClaim P [] = Unit {0}
-EachClaim P (c ∷ row) = P c × EachClaim P row
-
-each_claim-++ : (P : Claim → Type 0) (xs ys : List Claim) → EachClaim P xs → EachClaim P ys → EachClaim P (xs ++ ys)
-each_claim-++ P [] ys a b = b
-each_claim-++ P (c ∷ xs) ys a b = (a.0, each_claim-++ P xs ys a.1 b)
+      all_++ Of t.taken (close (length left) t.taken t.left).taken a (close_of (length left) t.taken t.left a k.0 k.1)
 
 -- the same for each rank by itself
 module _ (R : ℕ → ℕ → Type 0) where
@@ -63,31 +54,31 @@ module _ (R : ℕ → ℕ → Type 0) where
   abbrev pub Goes : Claim → Type 0
   Goes c = R c.rank c.object.id
 
-  all_to_of : (k : ℕ) (os : List Obj) → All (λ o. R k o.id) os → EachClaim Goes (all_to k os)
+  all_to_of : (k : ℕ) (os : List Obj) → AllByRecursion (λ o. R k o.id) os → AllByRecursion Goes (all_to k os)
   all_to_of k [] h = tt
   all_to_of k (o ∷ os) h = (h.0, all_to_of k os h.1)
 
-  pub claims_of : (ws : List Wish) (left : List Obj) → Each Sent ws → All (λ o. (k : ℕ) → Leads (R k) o) left → EachClaim Goes (claims ws left).row
+  pub claims_of : (ws : List Wish) (left : List Obj) → AllByRecursion Sent ws → AllByRecursion (λ o. (k : ℕ) → Leads (R k) o) left → AllByRecursion Goes (claims ws left).taken
   claims_of [] left g h = tt
   claims_of (w ∷ ws) left g h =
       let t = claim w.who left in
       let here = all_map (λ o. (k : ℕ) → Leads (R k) o) (Leads (R w.rank)) (λ o f. f w.rank) left h in
-      each_claim-++ Goes (all_to w.rank t.objs) (claims ws t.left).row
-      (all_to_of w.rank t.objs (claim_of (R w.rank) w.who left g.0 here))
+      all_++ Goes (all_to w.rank t.taken) (claims ws t.left).taken
+      (all_to_of w.rank t.taken (claim_of (R w.rank) w.who left g.0 here))
       (claims_of ws t.left g.1 (claim_all (λ o. (k : ℕ) → Leads (R k) o) w.who left h).1)
 
-  pub ref_sent : (k : ℕ) (rs : List (Option ℕ)) → ((i y : ℕ) → get_or rs i None ≡ Some y → R k y) → Each Sent (ref_wishes k rs)
+  pub ref_sent : (k : ℕ) (rs : List (Option ℕ)) → ((i y : ℕ) → get_or rs i None ≡ Some y → R k y) → AllByRecursion Sent (ref_wishes k rs)
   ref_sent k [] h = tt
   ref_sent k (None ∷ rs) h = ref_sent k rs (λ i y e. h (suc i) y e)
   ref_sent k (Some x ∷ rs) h = (h 0 x refl, ref_sent k rs (λ i y e. h (suc i) y e))
 
-  object_sent : (k : ℕ) (os : List Obj) → All (Points (R k)) os → Each Sent (object_wishes k os)
+  object_sent : (k : ℕ) (os : List Obj) → AllByRecursion (Points (R k)) os → AllByRecursion Sent (object_wishes k os)
   object_sent k [] h = tt
   object_sent k (o ∷ os) h =
-      each_++ Sent (ref_wishes k o.body.refs) (object_wishes k os) (ref_sent k o.body.refs h.0) (object_sent k os h.1)
+      all_++ Sent (ref_wishes k o.body.refs) (object_wishes k os) (ref_sent k o.body.refs h.0) (object_sent k os h.1)
 
-  pub train_sent : (k : ℕ) (t : Train) → All (Points (R k)) (train_objects t) → Each Sent (train_wishes k t)
+  pub train_sent : (k : ℕ) (t : Train) → AllByRecursion (Points (R k)) (train_objects t) → AllByRecursion Sent (train_wishes k t)
   train_sent k [] h = tt
   train_sent k (c ∷ cs) h =
-      each_++ Sent (object_wishes k c.objects) (train_wishes k cs) (object_sent k c.objects (all_left (Points (R k)) c.objects (train_objects cs) h))
+      all_++ Sent (object_wishes k c.objects) (train_wishes k cs) (object_sent k c.objects (all_left (Points (R k)) c.objects (train_objects cs) h))
       (train_sent k cs (all_right (Points (R k)) c.objects (train_objects cs) h))

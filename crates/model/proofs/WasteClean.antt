@@ -1,21 +1,20 @@
 -- Waste stays behind: what was unreachable at a halt is never held again, and never lies in a later train than it may.
-use Rattle.std.proofs.Common.{◌≡◌, ℕ, zero, suc, pred, ◌+◌, ◌-◌, ◌≤◌, Bool, true, false, cond, eqb, List, [], ◌∷◌, ◌++◌, get_or, replicate, Some, None, Option, sym, refl, subst, arith}
-use Rattle.std.proofs.lemmas.Bool.{eqb-true}
+use Rattle.std.proofs.Common.{◌≡◌, ℕ, zero, suc, pred, ◌+◌, ◌-◌, ◌≤◌, Bool, true, false, cond, eqb, List, [], ◌∷◌, ◌++◌, get_or, Some, None, Option, sym, refl, subst, arith, not}
+use Rattle.std.specs.List.{AllByRecursion}
 use Rattle.layout.specs.Meaning.{Meaning}
 use Rattle.remembered.specs.Meaning.{Meaning as Remembers}
 use Rattle.model.specs.Calls.{Call, make, access, step, tally}
 use Rattle.model.specs.Bodies.{Body, Roots, fresh, held, is_root, with_ref, with_value, Effect, leave, hold, point, store, reply_of}
 use Rattle.model.specs.Trains.{Obj, Car, Train, Trains, train_objects, objects, place_at, numbers, lowest_free, arrival, inside, among, alter_object, alter}
 use Rattle.model.specs.Claims.{Wish, ref_wishes, train_wishes, trains_wishes, Claim, claims}
-use Rattle.model.specs.Step.{Mark, first_to, outside, mark_wishes, wishes, place_all, mark_after, guard}
-use Rattle.model.specs.Space.{Model, all_objects, act, step_on, step_by, space_make, space_with, has_room}
-use Rattle.model.specs.Sound.{All, Points}
-use Rattle.model.proofs.Alls.{all_left, all_right, place_train_all, place_at_all}
+use Rattle.model.specs.Step.{first_to, outside, mark_wishes, wishes, place_all, mark_after, guard}
+use Rattle.model.specs.Space.{Model, all_objects, act, step_on, step_by, space_with, has_room, made_by}
+use Rattle.model.specs.Sound.{Points}
+use Rattle.model.proofs.Alls.{all_left, all_right, place_train_all, place_at_all, all_++}
 use Rattle.model.proofs.Alters.{objects-alter, train_alter, alter_all, set_either}
 use Rattle.model.proofs.Effects.{Brings, brings}
-use Rattle.model.proofs.Closure.{Each, each_++}
-use Rattle.model.proofs.Keeps.{step_all}
-use Rattle.model.proofs.WasteClaims.{Leads, EachClaim, Sent, Goes, claims_of, ref_sent, train_sent}
+use Rattle.model.proofs.Keeps.{step_all, inside_all, make_cases, no_ref}
+use Rattle.model.proofs.WasteClaims.{Leads, Sent, Goes, claims_of, ref_sent, train_sent}
 
 abbrev pub Not : (ℕ → Type 0) → ℕ → Type 0
 Not G x = G x → ⊥
@@ -24,41 +23,23 @@ Not G x = G x → ⊥
 pub record Apart (G : ℕ → Type 0) (m : Model) : Type 0 where
   pub new : (x : ℕ) → m.made ≤ x → Not G x
   pub roots : (r x : ℕ) → held m.roots r ≡ Some x → Not G x
-  pub leads : All (Leads (Not G)) (all_objects m)
-
--- the object of an identity that is found
-inside_all : (P : Obj → Type 0) (os : List Obj) (x : ℕ) (b : Body) → inside os x ≡ Some b → All P os → P (record { id = x; body = b })
-inside_all P [] x b e h = absurd (let z : ◌≡◌ {A = ℕ} 0 1 = cc in omega arith)
-inside_all P (o ∷ os) x b e h = go (λ r. inside_all P os x b r h.1) (eqb x o.id) refl e
-  where
-    go : (inside os x ≡ Some b → P (record { id = x; body = b })) → (t : Bool) → eqb x o.id ≡ t
-        → elim t [ true ↦ Some o.body | false ↦ inside os x ] ≡ Some b → P (record { id = x; body = b })
-    go more true q e =
-        let i : o.id ≡ x = sym (eqb-true x o.id q) in
-        let j : o.body ≡ b = cc in
-        subst (λ (c : Body). P (record { id = x; body = c })) j (subst (λ (y : ℕ). P (record { id = y; body = o.body })) i h.0)
-    go more false q e = more e
-
-none_held : (n i y : ℕ) → get_or (replicate n None) i None ≡ Some y → ⊥
-none_held zero i y e = let z : ◌≡◌ {A = ℕ} 0 1 = cc in omega arith
-none_held (suc n) zero y e = let z : ◌≡◌ {A = ℕ} 0 1 = cc in omega arith
-none_held (suc n) (suc i) y e = none_held n i y e
+  pub leads : AllByRecursion (Leads (Not G)) (all_objects m)
 
 -- a step only moves objects, or drops them, and leaves the roots
 module _ (P : Obj → Type 0) (M : Meaning) (has : Remembers) (m : Model) where
   record Moves (n : Model) : Type 0 where
-    all : All P (all_objects n)
+    all : AllByRecursion P (all_objects n)
     roots : n.roots ≡ m.roots
     made : n.made ≡ m.made
 
-  step_by_moves : (w : Option Wish) (t : Train) (ts : Trains) → All P (objects (t ∷ ts)) → Moves (step_by M has w t ts m).state
+  step_by_moves : (w : Option Wish) (t : Train) (ts : Trains) → AllByRecursion P (objects (t ∷ ts)) → Moves (step_by M has w t ts m).state
   step_by_moves None t ts h = record { all = all_right P (train_objects t) (objects ts) h; roots = refl; made = refl }
   step_by_moves (Some w) [] ts h = record { all = h; roots = refl; made = refl }
   step_by_moves (Some w) (f ∷ cs) ts h = record { all = step_all P f cs ts m h; roots = refl; made = refl }
 
-  step_moves : (ts : Trains) → m.trains ≡ ts → All P (all_objects m) → Moves (step_on M has ts m).state
+  step_moves : (ts : Trains) → m.trains ≡ ts → AllByRecursion P (all_objects m) → Moves (step_on M has ts m).state
   step_moves [] e h = record { all = h; roots = refl; made = refl }
-  step_moves (t ∷ ts) e h = step_by_moves (first_to (train_objects t) (outside m.roots (t ∷ ts) ts)) t ts (subst (λ (u : Trains). All P (objects u)) e h)
+  step_moves (t ∷ ts) e h = step_by_moves (first_to (train_objects t) (outside m.roots (t ∷ ts) ts)) t ts (subst (λ (u : Trains). AllByRecursion P (objects u)) e h)
 
 module _ (G : ℕ → Type 0) where
   ref_leads : (x i : ℕ) (h : Option ℕ) → ((y : ℕ) → h ≡ Some y → Not G y) → (o : Obj) → Leads (Not G) o → Leads (Not G) (alter_object x (with_ref i h) o)
@@ -76,8 +57,8 @@ module _ (G : ℕ → Type 0) where
       go false j y e = l n j y e
 
   leads_alter : (x : ℕ) (f : Body → Body) (ts : Trains) → ((o : Obj) → Leads (Not G) o → Leads (Not G) (alter_object x f o))
-      → All (Leads (Not G)) (objects ts) → All (Leads (Not G)) (objects (alter x f ts))
-  leads_alter x f ts one h = subst (All (Leads (Not G))) (sym (objects-alter x f ts)) (alter_all x f (Leads (Not G)) (Leads (Not G)) one (objects ts) h)
+      → AllByRecursion (Leads (Not G)) (objects ts) → AllByRecursion (Leads (Not G)) (objects (alter x f ts))
+  leads_alter x f ts one h = subst (AllByRecursion (Leads (Not G))) (sym (objects-alter x f ts)) (alter_all x f (Leads (Not G)) (Leads (Not G)) one (objects ts) h)
 
   apart_with : (M : Meaning) (m : Model) (e : Effect) → Brings (inside (all_objects m)) m.roots (Not G) e → Apart G m → Apart G (space_with M e m)
   apart_with M m leave b a = a
@@ -85,20 +66,19 @@ module _ (G : ℕ → Type 0) where
   apart_with M m (point x i h) b a = record { new = a.new; roots = a.roots; leads = leads_alter x (with_ref i h) m.trains (ref_leads x i h b.1) a.leads }
   apart_with M m (store x w v) b a = record { new = a.new; roots = a.roots; leads = leads_alter x (with_value w v) m.trains (value_leads x w v) a.leads }
 
-  apart_make : (M : Meaning) (k a b r : ℕ) (p q s : Bool) (m : Model) → Apart G m → Apart G (space_make p q s (fresh M k a b) r m).state
-  apart_make M k a b r false q s m h = h
-  apart_make M k a b r true false s m h = h
-  apart_make M k a b r true true false m h = h
-  apart_make M k a b r true true true m h = record {
+  apart_made : (M : Meaning) (k a b r : ℕ) (m : Model) → Apart G m → Apart G (made_by (fresh M k a b) r m)
+  apart_made M k a b r m h = record {
     new = λ x l. h.new x (omega arith);
     roots = λ q x e. set_either m.roots r q (Some m.made) x (Not G x) (h.roots q x) (λ i. let d : m.made ≡ x = cc in h.new x (omega arith)) e;
     leads = place_at_all (Leads (Not G)) (arrival m.trains) (lowest_free (numbers m.trains)) (record { id = m.made; body = fresh M k a b }) m.trains
-        h.leads (λ n i y e. absurd (none_held (M.ref_count k a b) i y e));
+        h.leads (λ n i y e. absurd (no_ref (M.ref_count k a b) i y e));
   }
 
   -- no call brings back what is of G
   pub apart_act : (M : Meaning) (has : Remembers) (c : Call) (m : Model) → Apart G m → Apart G (act M has c m).state
-  apart_act M has (make r k a b) m h = apart_make M k a b r (is_root r) (M.admits k a b) (has_room (fresh M k a b) m) m h
+  apart_act M has (make r k a b) m h =
+      make_cases (λ o. Apart G o.state) (is_root r) (M.admits k a b) (not (has_room (fresh M k a b) m)) m (made_by (fresh M k a b) r m)
+      (λ n. h) (λ ok room. apart_made M k a b r m h)
   apart_act M has (access c) m h =
       apart_with M m (reply_of (inside (all_objects m)) m.roots c).effect
       (brings (inside (all_objects m)) m.roots (Not G) h.roots
@@ -115,15 +95,15 @@ module _ (G : ℕ → Type 0) where
   -- trains of a rank of b or more have no object of G
   abbrev pub Clean : ℕ → Trains → Type 0
   Clean b [] = Unit {0}
-  Clean zero (t ∷ ts) = All (λ o. Not G o.id) (train_objects t) × Clean zero ts
+  Clean zero (t ∷ ts) = AllByRecursion (λ o. Not G o.id) (train_objects t) × Clean zero ts
   Clean (suc b) (t ∷ ts) = Clean b ts
 
   -- what goes to the rank k is not of G if k is b or more
   abbrev pub Bound : ℕ → ℕ → ℕ → Type 0
   Bound b k x = b ≤ k → Not G x
 
-  abbrev pub CleanMark : ℕ → Option Mark → Type 0
-  CleanMark b mk = (w : Mark) → mk ≡ Some w → Bound b w.rank w.who
+  abbrev pub CleanMark : ℕ → Option Wish → Type 0
+  CleanMark b mk = (w : Wish) → mk ≡ Some w → Bound b w.rank w.who
 
   clean_place_at : (b k n : ℕ) (o : Obj) (ts : Trains) → Bound b k o.id → Clean b ts → Clean b (place_at k n o ts)
   clean_place_at zero k n o [] f h = ((f (omega arith), tt), tt)
@@ -133,7 +113,7 @@ module _ (G : ℕ → Type 0) where
   clean_place_at (suc b) zero n o (t ∷ ts) f h = h
   clean_place_at (suc b) (suc k) n o (t ∷ ts) f h = clean_place_at b k n o ts (λ l. f (omega arith)) h
 
-  clean_place_all : (b : ℕ) (busy : List ℕ) (row : List Claim) (ts : Trains) → EachClaim (Goes (Bound b)) row → Clean b ts → Clean b (place_all busy row ts)
+  clean_place_all : (b : ℕ) (busy : List ℕ) (row : List Claim) (ts : Trains) → AllByRecursion (Goes (Bound b)) row → Clean b ts → Clean b (place_all busy row ts)
   clean_place_all b busy [] ts r h = h
   clean_place_all b busy (c ∷ row) ts r h =
       let n = lowest_free (busy ++ numbers ts) in
@@ -148,88 +128,88 @@ module _ (G : ℕ → Type 0) where
   clean_car zero f cs ts h = (all_right (λ o. Not G o.id) f.objects (train_objects cs) h.0, h.1)
   clean_car (suc b) f cs ts h = h
 
-  clean_first : (b : ℕ) (t : Train) (ts : Trains) → Clean b (t ∷ ts) → b ≤ 0 → All (λ o. Not G o.id) (train_objects t)
+  clean_first : (b : ℕ) (t : Train) (ts : Trains) → Clean b (t ∷ ts) → b ≤ 0 → AllByRecursion (λ o. Not G o.id) (train_objects t)
   clean_first zero t ts h e = h.0
   clean_first (suc b) t ts h e = absurd (omega (arith, e))
 
   -- the slots of a train without G hold none of G
-  train_bound : (b k : ℕ) (t : Train) → ((b ≤ k) → All (λ o. Not G o.id) (train_objects t)) → All (Leads (Not G)) (train_objects t) → Each (Sent (Bound b)) (train_wishes k t)
+  train_bound : (b k : ℕ) (t : Train) → ((b ≤ k) → AllByRecursion (λ o. Not G o.id) (train_objects t)) → AllByRecursion (Leads (Not G)) (train_objects t) → AllByRecursion (Sent (Bound b)) (train_wishes k t)
   train_bound b k t a l = train_sent (Bound b) k t (points (train_objects t) a l)
     where
-      points : (os : List Obj) → ((b ≤ k) → All (λ o. Not G o.id) os) → All (Leads (Not G)) os → All (Points (Bound b k)) os
+      points : (os : List Obj) → ((b ≤ k) → AllByRecursion (λ o. Not G o.id) os) → AllByRecursion (Leads (Not G)) os → AllByRecursion (Points (Bound b k)) os
       points [] a l = tt
       points (o ∷ os) a l = (λ i y e q. l.0 (a q).0 i y e, points os (λ q. (a q).1) l.1)
 
-  trains_bound : (b c k : ℕ) (ts : Trains) → c ≤ b - k → Clean c ts → All (Leads (Not G)) (objects ts) → Each (Sent (Bound b)) (trains_wishes k ts)
+  trains_bound : (b c k : ℕ) (ts : Trains) → c ≤ b - k → Clean c ts → AllByRecursion (Leads (Not G)) (objects ts) → AllByRecursion (Sent (Bound b)) (trains_wishes k ts)
   trains_bound b c k [] e h l = tt
   trains_bound b zero k (t ∷ ts) e h l =
-      each_++ (Sent (Bound b)) (train_wishes k t) (trains_wishes (k + 1) ts)
+      all_++ (Sent (Bound b)) (train_wishes k t) (trains_wishes (k + 1) ts)
       (train_bound b k t (λ q. h.0) (all_left (Leads (Not G)) (train_objects t) (objects ts) l))
       (trains_bound b zero (k + 1) ts (omega arith) h.1 (all_right (Leads (Not G)) (train_objects t) (objects ts) l))
   trains_bound b (suc c) k (t ∷ ts) e h l =
-      each_++ (Sent (Bound b)) (train_wishes k t) (trains_wishes (k + 1) ts)
+      all_++ (Sent (Bound b)) (train_wishes k t) (trains_wishes (k + 1) ts)
       (train_bound b k t (λ q. absurd (omega (arith, q, e))) (all_left (Leads (Not G)) (train_objects t) (objects ts) l))
       (trains_bound b c (k + 1) ts (omega arith) h (all_right (Leads (Not G)) (train_objects t) (objects ts) l))
 
-  mark_bound : (b : ℕ) (mk : Option Mark) → CleanMark b mk → Each (Sent (Bound b)) (mark_wishes mk)
+  mark_bound : (b : ℕ) (mk : Option Wish) → CleanMark b mk → AllByRecursion (Sent (Bound b)) (mark_wishes mk)
   mark_bound b None h = tt
   mark_bound b (Some w) h = (h w refl, tt)
 
-  module _ (b : ℕ) (rs : Roots) (mk : Option Mark) (f : Car) (cs : Train) (ts : Trains)
-      (apart : (r x : ℕ) → held rs r ≡ Some x → Not G x) (leads : All (Leads (Not G)) (objects ((f ∷ cs) ∷ ts)))
+  module _ (b : ℕ) (rs : Roots) (mk : Option Wish) (f : Car) (cs : Train) (ts : Trains)
+      (apart : (r x : ℕ) → held rs r ≡ Some x → Not G x) (leads : AllByRecursion (Leads (Not G)) (objects ((f ∷ cs) ∷ ts)))
       (clean : Clean b ((f ∷ cs) ∷ ts)) (marked : CleanMark b mk) where
-    leads_first : All (Leads (Not G)) (train_objects (f ∷ cs))
+    leads_first : AllByRecursion (Leads (Not G)) (train_objects (f ∷ cs))
     leads_first = all_left (Leads (Not G)) (train_objects (f ∷ cs)) (objects ts) leads
 
-    roots_bound : Each (Sent (Bound b)) (ref_wishes (arrival ((f ∷ cs) ∷ ts)) rs)
+    roots_bound : AllByRecursion (Sent (Bound b)) (ref_wishes (arrival ((f ∷ cs) ∷ ts)) rs)
     roots_bound = ref_sent (Bound b) (arrival ((f ∷ cs) ∷ ts)) rs (λ i y e q. apart i y e)
 
-    later_bound : Each (Sent (Bound b)) (trains_wishes 1 ts)
+    later_bound : AllByRecursion (Sent (Bound b)) (trains_wishes 1 ts)
     later_bound = trains_bound b (pred b) 1 ts (omega arith) (clean_tail b (f ∷ cs) ts clean) (all_right (Leads (Not G)) (train_objects (f ∷ cs)) (objects ts) leads)
 
-    pub outside_bound : Each (Sent (Bound b)) (outside rs ((f ∷ cs) ∷ ts) ts)
-    outside_bound = each_++ (Sent (Bound b)) (ref_wishes (arrival ((f ∷ cs) ∷ ts)) rs) (trains_wishes 1 ts) roots_bound later_bound
+    pub outside_bound : AllByRecursion (Sent (Bound b)) (outside rs ((f ∷ cs) ∷ ts) ts)
+    outside_bound = all_++ (Sent (Bound b)) (ref_wishes (arrival ((f ∷ cs) ∷ ts)) rs) (trains_wishes 1 ts) roots_bound later_bound
 
-    wishes_bound : Each (Sent (Bound b)) (wishes rs mk f cs ts)
+    wishes_bound : AllByRecursion (Sent (Bound b)) (wishes rs mk f cs ts)
     wishes_bound =
         let W = Sent (Bound b) in
-        each_++ W (ref_wishes (arrival ((f ∷ cs) ∷ ts)) rs) (mark_wishes mk ++ (trains_wishes 1 ts ++ train_wishes 0 cs)) roots_bound
-        (each_++ W (mark_wishes mk) (trains_wishes 1 ts ++ train_wishes 0 cs) (mark_bound b mk marked)
-        (each_++ W (trains_wishes 1 ts) (train_wishes 0 cs) later_bound
+        all_++ W (ref_wishes (arrival ((f ∷ cs) ∷ ts)) rs) (mark_wishes mk ++ (trains_wishes 1 ts ++ train_wishes 0 cs)) roots_bound
+        (all_++ W (mark_wishes mk) (trains_wishes 1 ts ++ train_wishes 0 cs) (mark_bound b mk marked)
+        (all_++ W (trains_wishes 1 ts) (train_wishes 0 cs) later_bound
         (train_bound b 0 cs (λ q. all_right (λ o. Not G o.id) f.objects (train_objects cs) (clean_first b (f ∷ cs) ts clean q))
         (all_right (Leads (Not G)) f.objects (train_objects cs) leads_first))))
 
-    bound_leads : (os : List Obj) → All (Leads (Not G)) os → All (λ o. (k : ℕ) → Leads (Bound b k) o) os
+    bound_leads : (os : List Obj) → AllByRecursion (Leads (Not G)) os → AllByRecursion (λ o. (k : ℕ) → Leads (Bound b k) o) os
     bound_leads [] h = tt
     bound_leads (o ∷ os) h = (λ k n i y e q. h.0 (n q) i y e, bound_leads os h.1)
 
     -- the trains that the objects carried are placed in
-    pub clean_placed : (busy : List ℕ) → Clean b (place_all busy (claims (wishes rs mk f cs ts) f.objects).row (cs ∷ ts))
+    pub clean_placed : (busy : List ℕ) → Clean b (place_all busy (claims (wishes rs mk f cs ts) f.objects).taken (cs ∷ ts))
     clean_placed busy =
-        clean_place_all b busy (claims (wishes rs mk f cs ts) f.objects).row (cs ∷ ts)
+        clean_place_all b busy (claims (wishes rs mk f cs ts) f.objects).taken (cs ∷ ts)
         (claims_of (Bound b) (wishes rs mk f cs ts) f.objects wishes_bound (bound_leads f.objects (all_left (Leads (Not G)) f.objects (train_objects cs) leads_first)))
         (clean_car b f cs ts clean)
 
   -- a mark that stands after a step is the old one or the first outside reference
-  pub mark_clean : (b out : ℕ) (w : Wish) (os : List Obj) (mk : Option Mark) → Bound b w.rank w.who → CleanMark b mk → CleanMark b (guard (mark_after os mk) out w)
+  pub mark_clean : (b out : ℕ) (w : Wish) (os : List Obj) (mk : Option Wish) → Bound b w.rank w.who → CleanMark b mk → CleanMark b (guard (mark_after os mk) out w)
   mark_clean b out w os mk f h = go mk h
     where
-      new : (n : ℕ) (v : Mark) → guard None n w ≡ Some v → Bound b v.rank v.who
-      new zero v e = let d : record { who = w.who; rank = w.rank } ≡ v = cc in subst (λ (u : Mark). Bound b u.rank u.who) d f
+      new : (n : ℕ) (v : Wish) → guard None n w ≡ Some v → Bound b v.rank v.who
+      new zero v e = let d : w ≡ v = cc in subst (λ (u : Wish). Bound b u.rank u.who) d f
       new (suc n) v e = absurd (let z : ◌≡◌ {A = ℕ} 0 1 = cc in omega arith)
 
-      old : (u v : Mark) → CleanMark b (Some u) → (t : Bool) → guard (elim t [ true ↦ None | false ↦ Some u ]) out w ≡ Some v → Bound b v.rank v.who
+      old : (u v : Wish) → CleanMark b (Some u) → (t : Bool) → guard (cond t None (Some u)) out w ≡ Some v → Bound b v.rank v.who
       old u v h true e = new out v e
       old u v h false e = h v e
 
-      go : (mk : Option Mark) → CleanMark b mk → CleanMark b (guard (mark_after os mk) out w)
+      go : (mk : Option Wish) → CleanMark b mk → CleanMark b (guard (mark_after os mk) out w)
       go None h v e = new out v e
       go (Some u) h v e = old u v h (among u.who os) e
 
   clean_alter : (b x : ℕ) (f : Body → Body) (ts : Trains) → Clean b ts → Clean b (alter x f ts)
   clean_alter b x f [] h = tt
   clean_alter zero x f (t ∷ ts) h =
-      (subst (All (λ o. Not G o.id)) (sym (train_alter x f t)) (alter_all x f (λ o. Not G o.id) (λ o. Not G o.id) (λ o n. n) (train_objects t) h.0), clean_alter zero x f ts h.1)
+      (subst (AllByRecursion (λ o. Not G o.id)) (sym (train_alter x f t)) (alter_all x f (λ o. Not G o.id) (λ o. Not G o.id) (λ o n. n) (train_objects t) h.0), clean_alter zero x f ts h.1)
   clean_alter (suc b) x f (t ∷ ts) h = clean_alter b x f ts h
 
   pub clean_with : (M : Meaning) (b : ℕ) (m : Model) (e : Effect) → Clean b m.trains → Clean b (space_with M e m).trains
@@ -238,9 +218,6 @@ module _ (G : ℕ → Type 0) where
   clean_with M b m (point x i v) h = clean_alter b x (with_ref i v) m.trains h
   clean_with M b m (store x w v) h = clean_alter b x (with_value w v) m.trains h
 
-  pub clean_make : (d : Body) (b r : ℕ) (p q s : Bool) (m : Model) → Apart G m → Clean b m.trains → Clean b (space_make p q s d r m).state.trains
-  clean_make d b r false q s m a h = h
-  clean_make d b r true false s m a h = h
-  clean_make d b r true true false m a h = h
-  clean_make d b r true true true m a h =
+  pub clean_made : (d : Body) (b r : ℕ) (m : Model) → Apart G m → Clean b m.trains → Clean b (made_by d r m).trains
+  clean_made d b r m a h =
       clean_place_at b (arrival m.trains) (lowest_free (numbers m.trains)) (record { id = m.made; body = d }) m.trains (λ q. a.new m.made (omega arith)) h

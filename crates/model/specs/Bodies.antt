@@ -1,7 +1,8 @@
 -- What an object has inside, and what a call on the roots' objects answers and changes.
-use Rattle.std.specs.Prelude.{ℕ, ◌+◌, ◌-◌, Bool, true, false, ◌&&◌, List, length, replicate, ℤ, pos, negsuc, Some, None, Option, ◌==◌, nat_le, nat_lt, slice_index, slice_index_or, slice_set}
+use Rattle.std.specs.Prelude.{ℕ, ◌+◌, ◌-◌, Bool, ◌&&◌, List, length, replicate, ℤ, pos, negsuc, Some, None, Option, nat_le, nat_lt, slice_index, slice_index_or, slice_set, find, nat_eq, option_and_then, option_map, if◌then◌else◌, not}
+use Rattle.std.specs.Option.{option_eq}
 use Rattle.layout.specs.Meaning.{Meaning}
-use Rattle.model.specs.Calls.{Access, link, follow, drop, put, lift, get, words, same, Refusal, root, empty, missing, range, buffer, Answer, refused, done, value, wrote, alike}
+use Rattle.model.specs.Calls.{Access, link, follow, drop, put, lift, get, words, same, Refusal, root, empty, missing, range, buffer, Answer, refused, done, value, wrote, alike, shape, full}
 
 pub record Shape : Type 0 where
   pub kind : ℕ
@@ -61,45 +62,29 @@ abbrev pub reply : Answer → Effect → Reply
 reply a e = record { answer = a; effect = e }
 
 -- the object that a root holds, with its identity
-pub data Found : Type 0 where
-  nobody : Found
-  found : (object : ℕ) → Body → Found
-
-abbrev pub with_body : ℕ → Option Body → Found
-with_body x None = nobody
-with_body x (Some b) = found x b
-
-abbrev pub object_of : (ℕ → Option Body) → Option ℕ → Found
-object_of find None = nobody
-object_of find (Some x) = with_body x (find x)
+abbrev pub object_of : (ℕ → Option Body) → Option ℕ → Option (ℕ × Body)
+object_of find h = option_and_then (λ x. option_map (λ b. (x, b)) (find x)) h
 
 -- a test that refuses with n where it fails
 abbrev pub unless : Bool → Refusal → Reply → Reply
-unless true n r = r
-unless false n r = refuse n
+unless ok n r = if ok then r else refuse n
 
-abbrev pub on_found : Found → (ℕ → Body → Reply) → Reply
-on_found nobody k = refuse empty
-on_found (found x b) k = k x b
+abbrev pub on_found : Option (ℕ × Body) → (ℕ → Body → Reply) → Reply
+on_found None k = refuse empty
+on_found (Some p) k = k p.0 p.1
 
 -- root numbers first, then whether the root holds an object
-abbrev pub on_object : Bool → Found → (ℕ → Body → Reply) → Reply
+abbrev pub on_object : Bool → Option (ℕ × Body) → (ℕ → Body → Reply) → Reply
 on_object roots-ok f k = unless roots-ok root (on_found f k)
 
 -- what a word is after a lift: none if it would leave 0 to 4,294,967,295
 abbrev pub lifted : ℕ → ℤ → Option ℕ
-lifted v (pos n) = elim (nat_le (v + n) 4294967295) [ true ↦ Some (v + n) | false ↦ None ]
-lifted v (negsuc n) = elim (nat_lt n v && nat_le (v - (n + 1)) 4294967295) [ true ↦ Some (v - (n + 1)) | false ↦ None ]
+lifted v (pos n) = if nat_le (v + n) 4294967295 then Some (v + n) else None
+lifted v (negsuc n) = if nat_lt n v && nat_le (v - (n + 1)) 4294967295 then Some (v - (n + 1)) else None
 
 abbrev pub store_lifted : (object word : ℕ) → Option ℕ → Reply
 store_lifted x w None = refuse range
 store_lifted x w (Some v) = reply done (store x w v)
-
-abbrev pub both_hold : Option ℕ → Option ℕ → Bool
-both_hold None None = true
-both_hold None (Some y) = false
-both_hold (Some x) None = false
-both_hold (Some x) (Some y) = x == y
 
 -- a call's answer and effect, where find tells what the object of an identity has inside
 abbrev pub reply_of : (ℕ → Option Body) → Roots → Access → Reply
@@ -116,7 +101,7 @@ reply_of find rs (get r w) =
     on_object (is_root r) (object_of find (held rs r)) (λ x b. unless (nat_lt w (length b.values)) missing (reply (value (slice_index b.values w)) leave))
 reply_of find rs (words r n) =
     on_object (is_root r) (object_of find (held rs r)) (λ x b. unless (nat_le (length b.values) n) buffer (reply (wrote b.values) leave))
-reply_of find rs (same r q) = unless (is_root r && is_root q) root (reply (alike (both_hold (held rs r) (held rs q))) leave)
+reply_of find rs (same r q) = unless (is_root r && is_root q) root (reply (alike (option_eq nat_eq (held rs r) (held rs q))) leave)
 
 pub record Outcome (S : Type 0) : Type 0 where
   pub state : S
@@ -124,3 +109,10 @@ pub record Outcome (S : Type 0) : Type 0 where
 
 abbrev pub outcome : {S : Type 0} → S → Answer → Outcome S
 outcome s a = record { state = s; answer = a }
+
+-- a make, by its tests in their order: the first that fails refuses, and leaves the state as it was before
+abbrev pub make_outcome : {S : Type 0} → (root_ok admitted is_filled : Bool) → (before after : S) → Outcome S
+make_outcome root_ok admitted is_filled before after =
+    if not root_ok then outcome before (refused root)
+    else (if not admitted then outcome before (refused shape)
+    else (if is_filled then outcome before (refused full) else outcome after done))

@@ -1,5 +1,5 @@
 -- The calls of a space, what they answer, and the history of a use.
-use Rattle.std.specs.Prelude.{ℕ, Bool, true, false, List, ℤ}
+use Rattle.std.specs.Prelude.{ℕ, Bool, true, false, List, [], ◌∷◌, ℤ, ⊤}
 
 -- a call on what the roots hold; of a buffer the call has its length
 pub data Access : Type 0 where
@@ -76,6 +76,11 @@ pub record Event : Type 0 where
 -- the newest event first
 abbrev pub History : Type 0
 History = List Event
+
+-- P holds of each event and the history before it
+abbrev pub AtEach : (Event → History → Type 0) → History → Type 0
+AtEach P [] = ⊤
+AtEach P (e ∷ h) = P e h × AtEach P h
 
 abbrev pub is_full : Answer → Bool
 is_full (refused root) = false

@@ -1,5 +1,5 @@
 -- Worked examples: what the definitions give, with the product's layout.
-use Rattle.std.specs.Prelude.{◌≡◌, ℕ, zero, suc, true, false, List, [], ◌∷◌, pos, negsuc, Err, codes}
+use Rattle.std.specs.Prelude.{◌≡◌, ℕ, true, false, List, [], ◌∷◌, pos, negsuc, Err, codes, replicate}
 use Rattle.script_reader.specs.Reader.{player_of}
 use Rattle.calls.specs.Answers.{refusal_number}
 use Rattle.calls.specs.declared.answer.Refusal.{Refusal as ToldRefusal}
@@ -21,10 +21,6 @@ answers has (c ∷ cs) m = let o = act product_meaning has c m in o.answer ∷ a
 abbrev pub behind : Remembers → List Call → Model → Model
 behind has [] m = m
 behind has (c ∷ cs) m = behind has cs (act product_meaning has c m).state
-
-abbrev pub repeated : ℕ → Call → List Call
-repeated zero c = []
-repeated (suc n) c = c ∷ repeated n c
 
 -- two records hold each other and are let go; the first lies in the first train, the second in the next
 abbrev pub cycle : List Call
@@ -63,7 +59,7 @@ pub record WorkedExamples : Type 0 where
   pub arrays_have_references : answers slot_has (make 0 1 63 0 ∷ make 0 1 64 0 ∷ make 0 1 63 1 ∷ []) opening ≡ done ∷ refused shape ∷ refused shape ∷ []
   -- 48 arrays of 64 words fill the space
   pub full_after_48_arrays : (r k a b : ℕ) → is_root r ≡ true → product_meaning.admits k a b ≡ true
-      → (act product_meaning slot_has (make r k a b) (behind slot_has (repeated 48 (make 0 1 63 0)) opening)).answer ≡ refused full
+      → (act product_meaning slot_has (make r k a b) (behind slot_has (replicate 48 (make 0 1 63 0)) opening)).answer ≡ refused full
   pub lift_to_zero : answers slot_has (lift_from 10 (access (lift 0 0 (negsuc 9)))) opening ≡ done ∷ done ∷ done ∷ value 0 ∷ []
   pub lift_below_zero : answers slot_has (lift_from 10 (access (lift 0 0 (negsuc 10)))) opening ≡ done ∷ done ∷ refused range ∷ value 10 ∷ []
   pub lift_beyond_a_word : answers slot_has (lift_from 4294967295 (access (lift 0 0 (pos 1)))) opening ≡ done ∷ done ∷ refused range ∷ value 4294967295 ∷ []

@@ -1,7 +1,7 @@
 -- Slots with their addresses, and which of them the remembered set is told.
-use Rattle.std.specs.Prelude.{ℕ, ◌+◌, ◌*◌, Bool, true, false, ◌&&◌, ◌||◌, List, [], ◌∷◌, ◌++◌, length, Some, None, Option, ◌==◌, nat_lt}
+use Rattle.std.specs.Prelude.{ℕ, ◌+◌, ◌*◌, Bool, false, ◌&&◌, ◌||◌, List, [], ◌∷◌, ◌++◌, length, Some, None, Option, ◌==◌, nat_lt, flat_map, filter, reverse, if◌then◌else◌}
 use Rattle.layout.specs.Meaning.{Meaning}
-use Rattle.remembered.specs.Meaning.{Told, note, forget, Row}
+use Rattle.remembered.specs.Meaning.{Told, note, Row}
 use Rattle.model.specs.Bodies.{Shape, size}
 use Rattle.model.specs.Trains.{Obj, Train, Trains, among, car_words}
 
@@ -13,7 +13,7 @@ pub record Seat : Type 0 where
 -- the seat of the car that has the object x, where the first car of these has the place n
 abbrev pub train_seat : (n x : ℕ) → Train → Option Seat → Option Seat
 train_seat n x [] rest = rest
-train_seat n x (c ∷ cs) rest = elim (among x c.objects) [ true ↦ Some (record { order = n; number = c.number }) | false ↦ train_seat (n + 1) x cs rest ]
+train_seat n x (c ∷ cs) rest = if among x c.objects then Some (record { order = n; number = c.number }) else train_seat (n + 1) x cs rest
 
 abbrev pub seat : (n x : ℕ) → Trains → Option Seat
 seat n x [] = None
@@ -49,7 +49,7 @@ slots M n (t ∷ ts) = train_slots M n t ++ slots M (n + length t) ts
 -- a slot whose car is later than the car of the object it holds is noted for that car
 abbrev pub note_by : Option Seat → Slot → List Told
 note_by None s = []
-note_by (Some c) s = elim (nat_lt c.order s.order) [ true ↦ note c.number s.address ∷ [] | false ↦ [] ]
+note_by (Some c) s = if nat_lt c.order s.order then note c.number s.address ∷ [] else []
 
 abbrev pub note_of : Trains → Slot → Option ℕ → List Told
 note_of ts s None = []
@@ -57,8 +57,7 @@ note_of ts s (Some y) = note_by (seat 0 y ts) s
 
 -- what is noted of the slots that pass a test, in their order
 abbrev pub notes : Trains → (Slot → Bool) → List Slot → List Told
-notes ts test [] = []
-notes ts test (s ∷ ss) = elim (test s) [ true ↦ note_of ts s s.target ++ notes ts test ss | false ↦ notes ts test ss ]
+notes ts test ss = flat_map (λ s. note_of ts s s.target) (filter test ss)
 
 abbrev pub target_among : List Obj → Option ℕ → Bool
 target_among os None = false
@@ -73,9 +72,4 @@ is_slot x i s = x == s.holder && i == s.index
 
 -- a row after more was told, in order
 abbrev pub tell : List Told → Row → Row
-tell [] r = r
-tell (n ∷ ns) r = tell ns (n ∷ r)
-
-abbrev pub forget_all : List ℕ → List Told
-forget_all [] = []
-forget_all (n ∷ ns) = forget n ∷ forget_all ns
+tell ns r = reverse ns ++ r

@@ -1,8 +1,8 @@
 -- The plain graph: nothing is ever lost in it. An object's identity is its entry's number.
-use Rattle.std.specs.Prelude.{ℕ, zero, suc, Bool, true, false, List, [], ◌∷◌, ◌++◌, length, replicate, Some, None, Option, slice_set}
+use Rattle.std.specs.Prelude.{ℕ, zero, suc, Bool, List, [], ◌∷◌, ◌++◌, length, replicate, Some, None, slice_set, slice_get}
 use Rattle.layout.specs.Meaning.{Meaning}
-use Rattle.model.specs.Calls.{Call, make, access, step, tally, root, shape, full, refused, done, History, is_full}
-use Rattle.model.specs.Bodies.{Body, Roots, fresh, with_ref, with_value, root_count, is_root, Effect, leave, hold, point, store, reply_of, Outcome, outcome}
+use Rattle.model.specs.Calls.{Call, make, access, step, tally, done, History, is_full}
+use Rattle.model.specs.Bodies.{Body, Roots, fresh, with_ref, with_value, root_count, is_root, Effect, leave, hold, point, store, reply_of, Outcome, outcome, make_outcome}
 
 pub record Graph : Type 0 where
   pub entries : List Body
@@ -10,11 +10,6 @@ pub record Graph : Type 0 where
 
 abbrev pub no_entries : Graph
 no_entries = record { entries = []; roots = replicate root_count None }
-
-abbrev pub entry : List Body → ℕ → Option Body
-entry [] x = None
-entry (b ∷ bs) zero = Some b
-entry (b ∷ bs) (suc x) = entry bs x
 
 abbrev pub alter_entry : ℕ → (Body → Body) → List Body → List Body
 alter_entry x f [] = []
@@ -27,20 +22,18 @@ with_effect (hold r h) g = record { entries = g.entries; roots = slice_set g.roo
 with_effect (point x i h) g = record { entries = alter_entry x (with_ref i h) g.entries; roots = g.roots }
 with_effect (store x w v) g = record { entries = alter_entry x (with_value w v) g.entries; roots = g.roots }
 
--- a make, by its tests in their order; it is told whether the space refused it as full
-abbrev pub plain_make : (root_ok admitted was-full : Bool) → Body → ℕ → Graph → Outcome Graph
-plain_make false admitted was-full b r g = outcome g (refused root)
-plain_make true false was-full b r g = outcome g (refused shape)
-plain_make true true true b r g = outcome g (refused full)
-plain_make true true false b r g =
-    outcome (record { entries = g.entries ++ (b ∷ []); roots = slice_set g.roots r (Some (length g.entries)) }) done
+-- a new entry, and the root holds it
+abbrev pub with_entry : Body → ℕ → Graph → Graph
+with_entry b r g = record { entries = g.entries ++ (b ∷ []); roots = slice_set g.roots r (Some (length g.entries)) }
 
--- a step and a tally do nothing to the graph, and it gives no answer to them that anything rests on
-abbrev pub plain : Meaning → (was-full : Bool) → Call → Graph → Outcome Graph
-plain M was-full (make r k a b) g = plain_make (is_root r) (M.admits k a b) was-full (fresh M k a b) r g
-plain M was-full (access c) g = let p = reply_of (entry g.entries) g.roots c in outcome (with_effect p.effect g) p.answer
-plain M was-full step g = outcome g done
-plain M was-full tally g = outcome g done
+-- it is told whether the space refused a make as full; a step and a tally do nothing to the graph, and it gives no answer to
+-- them that anything rests on
+abbrev pub plain : Meaning → (was_full : Bool) → Call → Graph → Outcome Graph
+plain M was_full (make r k a b) g =
+    make_outcome (is_root r) (M.admits k a b) was_full g (with_entry (fresh M k a b) r g)
+plain M was_full (access c) g = let p = reply_of (slice_get g.entries) g.roots c in outcome (with_effect p.effect g) p.answer
+plain M was_full step g = outcome g done
+plain M was_full tally g = outcome g done
 
 -- the graph after a history, fed only the calls and which makes were refused as full
 abbrev pub graph_of : Meaning → History → Graph

@@ -1,16 +1,12 @@
 -- No reference is overlooked: what the remembered set has at every halt, for every layout and every remembered set.
-use Rattle.std.specs.Prelude.{◌≡◌, ℕ, ◌<◌, true, List, [], ◌∷◌, Some}
+use Rattle.std.specs.Prelude.{◌≡◌, ℕ, ◌<◌, true, Some, nat_eq}
+use Rattle.std.specs.List.{AllByRecursion, IsDistinct}
 use Rattle.layout.specs.Meaning.{Meaning, Lawful}
 use Rattle.remembered.specs.Meaning.{Meaning as Remembers, Lawful as RemembersLawfully}
 use Rattle.model.specs.Calls.{History}
-use Rattle.model.specs.Trains.{numbers, one_of, Distinct, car_count}
+use Rattle.model.specs.Trains.{numbers, car_count}
 use Rattle.model.specs.Notes.{Seat, seat, Slot, slots}
 use Rattle.model.specs.Space.{Model, space_of}
-
--- P holds of each slot of a list
-abbrev pub EachSlot : (Slot → Type 0) → List Slot → Type 0
-EachSlot P [] = Unit {0}
-EachSlot P (s ∷ ss) = P s × EachSlot P ss
 
 -- if the slot stands in a later car than the car of the object it holds, the set has its address for that car
 abbrev pub RememberedIfLater : Remembers → Model → Slot → Type 0
@@ -27,11 +23,11 @@ abbrev pub address_count : ℕ
 address_count = 8192
 
 pub record NothingOverlooked (M : Meaning) (has : Remembers) (m : Model) : Type 0 where
-  pub below : (n : ℕ) → one_of n (numbers m.trains) ≡ true → n < car_count
-  pub differ : Distinct (numbers m.trains)
-  pub addresses : EachSlot (λ s. s.address < address_count) (slots M 0 m.trains)
-  pub lies : EachSlot (HoldsWhatLies m) (slots M 0 m.trains)
-  pub remembered : EachSlot (RememberedIfLater has m) (slots M 0 m.trains)
+  pub below : AllByRecursion (λ n. n < car_count) (numbers m.trains)
+  pub differ : IsDistinct nat_eq (numbers m.trains)
+  pub addresses : AllByRecursion (λ s. s.address < address_count) (slots M 0 m.trains)
+  pub lies : AllByRecursion (HoldsWhatLies m) (slots M 0 m.trains)
+  pub remembered : AllByRecursion (RememberedIfLater has m) (slots M 0 m.trains)
 
 -- at every halt, however the space got there
 abbrev pub OverlooksNothing : Meaning → Remembers → Type 0

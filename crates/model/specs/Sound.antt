@@ -1,14 +1,10 @@
 -- What holds of a space at every halt.
 use Rattle.std.specs.Prelude.{◌≡◌, ℕ, ◌<◌, ◌≤◌, List, [], ◌∷◌, length, Some, None, Option, slice_index_or}
+use Rattle.std.specs.List.{AllByRecursion}
 use Rattle.model.specs.Bodies.{Roots, held}
 use Rattle.model.specs.Trains.{Obj, Train, Trains, train_objects, objects, words_of, words_in_use, times, obj_size, capacity, most_trains, car_words}
-use Rattle.model.specs.Step.{Mark}
 use Rattle.model.specs.Space.{Model}
-
--- P holds of each object
-abbrev pub All : (Obj → Type 0) → List Obj → Type 0
-All P [] = Unit {0}
-All P (o ∷ os) = P o × All P os
+use Rattle.model.specs.Claims.{Wish}
 
 -- each reference of an object holds none or an identity of Q
 abbrev pub Points : (ℕ → Type 0) → Obj → Type 0
@@ -24,39 +20,34 @@ Filled [] = Unit {0}
 Filled (c ∷ []) = (1 ≤ words_of c.objects) × (words_of c.objects ≤ car_words)
 Filled (c ∷ d ∷ cs) = (65 ≤ words_of c.objects) × (words_of c.objects ≤ car_words) × Filled (d ∷ cs)
 
-abbrev pub AllFilled : Trains → Type 0
-AllFilled [] = Unit {0}
-AllFilled (t ∷ ts) = Filled t × AllFilled ts
-
--- no train is without cars
-abbrev pub Standing : Trains → Type 0
-Standing [] = Unit {0}
-Standing (t ∷ ts) = (1 ≤ length t) × Standing ts
+-- a train has a car
+abbrev pub HasCars : Train → Type 0
+HasCars t = 1 ≤ length t
 
 abbrev pub first_objects : Trains → List Obj
 first_objects [] = []
 first_objects (t ∷ ts) = train_objects t
 
 -- a mark names an object of the first train and the rank of another, or of the one that would be opened next
-pub record Marked (w : Mark) (ts : Trains) : Type 0 where
+pub record Marked (w : Wish) (ts : Trains) : Type 0 where
   pub lies : 1 ≤ times w.who (first_objects ts)
   pub above : 1 ≤ w.rank
   pub within : w.rank ≤ length ts
   pub below : w.rank < most_trains
 
-pub record SoundAt (made : ℕ) (rs : Roots) (ts : Trains) (mk : Option Mark) : Type 0 where
+pub record SoundAt (made : ℕ) (rs : Roots) (ts : Trains) (mk : Option Wish) : Type 0 where
   -- identities were given, and each lies in a car at most once
-  pub old : All (λ o. o.id < made) (objects ts)
+  pub old : AllByRecursion (λ o. o.id < made) (objects ts)
   pub once : (x : ℕ) → times x (objects ts) ≤ 1
-  pub sized : All Sized (objects ts)
+  pub sized : AllByRecursion Sized (objects ts)
   -- roots and references, those of waste too, hold what lies in a car or none
   pub roots : (r x : ℕ) → held rs r ≡ Some x → 1 ≤ times x (objects ts)
-  pub refs : All (Points (λ y. 1 ≤ times y (objects ts))) (objects ts)
+  pub refs : AllByRecursion (Points (λ y. 1 ≤ times y (objects ts))) (objects ts)
   pub room : words_in_use ts ≤ capacity
-  pub filled : AllFilled ts
-  pub standing : Standing ts
+  pub filled : AllByRecursion Filled ts
+  pub standing : AllByRecursion HasCars ts
   pub few : length ts ≤ most_trains
-  pub mark : (w : Mark) → mk ≡ Some w → Marked w ts
+  pub mark : (w : Wish) → mk ≡ Some w → Marked w ts
 
 -- the facts that every call keeps
 abbrev pub Sound : Model → Type 0

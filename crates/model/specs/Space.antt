@@ -1,21 +1,21 @@
 -- The space: roots, trains, the mark, and what the remembered set was told; and what each call does to it.
-use Rattle.std.specs.Prelude.{◌≡◌, ℕ, suc, ◌+◌, Bool, true, false, List, [], ◌∷◌, length, replicate, Some, None, Option, nat_le, slice_set}
+use Rattle.std.specs.Prelude.{◌≡◌, ℕ, suc, ◌+◌, Bool, List, [], ◌∷◌, length, replicate, Some, None, Option, nat_le, slice_set, map, sum_by, is_some, not}
 use Rattle.layout.specs.Meaning.{Meaning}
 use Rattle.remembered.specs.Meaning.{Row, forget, pairs_of}
 use Rattle.remembered.specs.Meaning.{Meaning as Remembers}
-use Rattle.model.specs.Calls.{Call, make, access, step, tally, root, shape, full, refused, done, usage, report, idle, train, car, Report, History}
-use Rattle.model.specs.Bodies.{Body, Roots, fresh, size, with_ref, with_value, root_count, is_root, Effect, leave, hold, point, store, reply_of, Outcome, outcome}
+use Rattle.model.specs.Calls.{Call, make, access, step, tally, usage, report, idle, train, car, Report, History, AtEach}
+use Rattle.model.specs.Bodies.{Body, Roots, fresh, size, with_ref, with_value, root_count, is_root, Effect, leave, hold, point, store, reply_of, Outcome, outcome, make_outcome}
 use Rattle.model.specs.Trains.{Obj, Car, Train, Trains, train_objects, objects, words_in_use, cars_in_use, car_numbers, numbers, lowest_free, place_at, arrival, inside, alter, capacity}
-use Rattle.model.specs.Claims.{Wish, Carried, claims}
-use Rattle.model.specs.Step.{Mark, first_to, outside, wishes, place_all, trim, out_of, back_of, claimed, copied_of, mark_after, guard}
-use Rattle.model.specs.Notes.{slots, notes, touched, is_slot, tell, forget_all}
+use Rattle.model.specs.Claims.{Wish, claims, Taken, Claim}
+use Rattle.model.specs.Step.{first_to, outside, wishes, place_all, trim, out_of, back_of, claimed, copied_of, mark_after, guard}
+use Rattle.model.specs.Notes.{slots, notes, touched, is_slot, tell}
 
 pub record Model : Type 0 where
   -- how many objects were made; the next one's identity
   pub made : ℕ
   pub roots : Roots
   pub trains : Trains
-  pub mark : Option Mark
+  pub mark : Option Wish
   pub told : Row
 
 abbrev pub opening : Model
@@ -33,13 +33,6 @@ made_by b r m = record {
   mark = m.mark;
   told = m.told;
 }
-
--- a make, by its tests in their order
-abbrev pub space_make : (root_ok admitted room : Bool) → Body → ℕ → Model → Outcome Model
-space_make false admitted room b r m = outcome m (refused root)
-space_make true false room b r m = outcome m (refused shape)
-space_make true true false b r m = outcome m (refused full)
-space_make true true true b r m = outcome (made_by b r m) done
 
 abbrev pub has_room : Body → Model → Bool
 has_room b m = nat_le (words_in_use m.trains + size b) capacity
@@ -61,8 +54,7 @@ space_with M (store x w v) m = with_trains (alter x (with_value w v) m.trains) m
 
 -- all pairs that the set has for the cars of a train
 abbrev pub looked : (ℕ → ℕ → Bool) → Train → ℕ
-looked has [] = 0
-looked has (c ∷ cs) = pairs_of has c.number + looked has cs
+looked has t = sum_by (λ c. pairs_of has c.number) t
 
 abbrev pub nothing_done : Report
 nothing_done = record { kind = idle; out = 0; back = 0; copied = 0; lost = 0; looked = 0; cars = 0 }
@@ -71,16 +63,16 @@ nothing_done = record { kind = idle; out = 0; back = 0; copied = 0; lost = 0; lo
 abbrev pub free_train : Remembers → Train → Trains → Model → Outcome Model
 free_train has t ts m =
     outcome
-    (record { made = m.made; roots = m.roots; trains = ts; mark = None; told = tell (forget_all (car_numbers t)) m.told })
+    (record { made = m.made; roots = m.roots; trains = ts; mark = None; told = tell (map forget (car_numbers t)) m.told })
     (report (record { kind = train; out = 0; back = 0; copied = 0; lost = length (train_objects t); looked = looked (has m.told) t; cars = length t }))
 
 -- what is carried out of the first car
-abbrev pub carried : Car → Train → Trains → Model → Carried
+abbrev pub carried : Car → Train → Trains → Model → Taken Claim
 carried f cs ts m = claims (wishes m.roots m.mark f cs ts) f.objects
 
 -- the trains once it was placed and the first car is freed
 abbrev pub trains_after : Car → Train → Trains → Model → Trains
-trains_after f cs ts m = trim (place_all (f.number ∷ []) (carried f cs ts m).row (cs ∷ ts))
+trains_after f cs ts m = trim (place_all (f.number ∷ []) (carried f cs ts m).taken (cs ∷ ts))
 
 -- otherwise the first car's objects are carried out, each once, and the car is freed; w is the first outside reference
 abbrev pub free_car : Meaning → Remembers → Wish → Car → Train → Trains → Model → Outcome Model
@@ -92,14 +84,14 @@ free_car M has w f cs ts m =
       made = m.made;
       roots = m.roots;
       trains = after;
-      mark = guard (mark_after f.objects m.mark) (out_of c.row) w;
-      told = tell (notes after (touched (claimed c.row)) (slots M 0 after)) (forget f.number ∷ m.told);
+      mark = guard (mark_after f.objects m.mark) (out_of c.taken) w;
+      told = tell (notes after (touched (claimed c.taken)) (slots M 0 after)) (forget f.number ∷ m.told);
     })
     (report (record {
       kind = car;
-      out = out_of c.row;
-      back = back_of c.row;
-      copied = copied_of c.row;
+      out = out_of c.taken;
+      back = back_of c.taken;
+      copied = copied_of c.taken;
       lost = length c.left;
       looked = looked (has m.told) (f ∷ cs);
       cars = 1;
@@ -115,12 +107,9 @@ abbrev pub step_on : Meaning → Remembers → Trains → Model → Outcome Mode
 step_on M has [] m = outcome m (report nothing_done)
 step_on M has (t ∷ ts) m = step_by M has (first_to (train_objects t) (outside m.roots (t ∷ ts) ts)) t ts m
 
-abbrev pub is_some : Option Mark → Bool
-is_some None = false
-is_some (Some m) = true
-
 abbrev pub act : Meaning → Remembers → Call → Model → Outcome Model
-act M has (make r k a b) m = space_make (is_root r) (M.admits k a b) (has_room (fresh M k a b) m) (fresh M k a b) r m
+act M has (make r k a b) m =
+    make_outcome (is_root r) (M.admits k a b) (not (has_room (fresh M k a b) m)) m (made_by (fresh M k a b) r m)
 act M has (access c) m = let p = reply_of (inside (all_objects m)) m.roots c in outcome (space_with M p.effect m) p.answer
 act M has step m = step_on M has m.trains m
 act M has tally m =
@@ -133,5 +122,4 @@ space_of M has (e ∷ h) = (act M has e.call (space_of M has h)).state
 
 -- a history is a use if each answer is the one that the space gives
 abbrev pub Use : Meaning → Remembers → History → Type 0
-Use M has [] = Unit {0}
-Use M has (e ∷ h) = (e.answer ≡ (act M has e.call (space_of M has h)).answer) × Use M has h
+Use M has history = AtEach (λ e h. e.answer ≡ (act M has e.call (space_of M has h)).answer) history

@@ -1,5 +1,6 @@
 -- Objects in cars, cars in trains, trains in a row.
-use Rattle.std.specs.Prelude.{◌≡◌, ℕ, zero, suc, pred, ◌+◌, Bool, true, false, cond, ◌&&◌, ◌||◌, List, [], ◌∷◌, ◌++◌, length, Some, None, Option, ◌==◌, nat_le, nat_lt}
+use Rattle.std.specs.Prelude.{ℕ, zero, suc, pred, ◌+◌, Bool, cond, ◌&&◌, List, [], ◌∷◌, ◌++◌, length, Option, ◌==◌, nat_le, nat_lt, flat_map, map, find, option_map, if◌then◌else◌, sum_by, count_by}
+use Rattle.std.specs.List.{list_any, prefix_len, range_with_len}
 use Rattle.model.specs.Bodies.{Body, size}
 
 pub record Obj : Type 0 where
@@ -31,55 +32,35 @@ abbrev pub capacity : ℕ
 capacity = 3072
 
 abbrev pub train_objects : Train → List Obj
-train_objects [] = []
-train_objects (c ∷ cs) = c.objects ++ train_objects cs
+train_objects t = flat_map (λ c. c.objects) t
 
 abbrev pub objects : Trains → List Obj
-objects [] = []
-objects (t ∷ ts) = train_objects t ++ objects ts
-
--- a number of each object, added up
-abbrev pub total : (Obj → ℕ) → List Obj → ℕ
-total f [] = 0
-total f (o ∷ os) = f o + total f os
+objects ts = flat_map train_objects ts
 
 abbrev pub obj_size : Obj → ℕ
 obj_size o = size o.body
 
 abbrev pub words_of : List Obj → ℕ
-words_of os = total obj_size os
+words_of os = sum_by obj_size os
 
 abbrev pub words_in_use : Trains → ℕ
 words_in_use ts = words_of (objects ts)
 
 abbrev pub cars_in_use : Trains → ℕ
-cars_in_use [] = 0
-cars_in_use (t ∷ ts) = length t + cars_in_use ts
+cars_in_use ts = sum_by length ts
 
 abbrev pub car_numbers : Train → List ℕ
-car_numbers [] = []
-car_numbers (c ∷ cs) = c.number ∷ car_numbers cs
+car_numbers t = map (λ c. c.number) t
 
 abbrev pub numbers : Trains → List ℕ
-numbers [] = []
-numbers (t ∷ ts) = car_numbers t ++ numbers ts
+numbers ts = flat_map car_numbers ts
 
 abbrev pub one_of : ℕ → List ℕ → Bool
-one_of n [] = false
-one_of n (m ∷ ms) = n == m || one_of n ms
+one_of n ns = list_any (λ m. n == m) ns
 
--- no number stands twice
-abbrev pub Distinct : List ℕ → Type 0
-Distinct [] = Unit {0}
-Distinct (n ∷ ns) = (one_of n ns ≡ false) × Distinct ns
-
--- the lowest number from n on that is not among the used ones, if it is found in so many tries
-abbrev pub lowest_from : (tries n : ℕ) → List ℕ → ℕ
-lowest_from zero n used = n
-lowest_from (suc k) n used = elim (one_of n used) [ true ↦ lowest_from k (n + 1) used | false ↦ n ]
-
+-- the lowest number that is not among the used ones, or the number of cars if all are used
 abbrev pub lowest_free : List ℕ → ℕ
-lowest_free used = lowest_from car_count 0 used
+lowest_free used = prefix_len (λ n. one_of n used) (range_with_len 0 car_count)
 
 abbrev pub fits : Car → Obj → Bool
 fits c o = nat_le (words_of c.objects + size o.body) car_words
@@ -94,7 +75,7 @@ opened n o = record { number = n; objects = o ∷ [] }
 -- into the last car if it fits, else into the car of number n, which becomes the last
 abbrev pub place : (n : ℕ) → Obj → Train → Train
 place n o [] = opened n o ∷ []
-place n o (c ∷ []) = elim (fits c o) [ true ↦ with_object o c ∷ [] | false ↦ c ∷ opened n o ∷ [] ]
+place n o (c ∷ []) = if fits c o then with_object o c ∷ [] else c ∷ opened n o ∷ []
 place n o (c ∷ d ∷ cs) = c ∷ place n o (d ∷ cs)
 
 -- in the train of a rank; the first object placed behind the last train opens a train
@@ -109,45 +90,31 @@ last_cars (t ∷ []) = length t
 last_cars (t ∷ u ∷ ts) = last_cars (u ∷ ts)
 
 -- the number of trains if there are fewer than eight and the last has four cars or more, else the last train's rank
-abbrev pub arrival_by : (opens : Bool) → (trains : ℕ) → ℕ
-arrival_by true n = n
-arrival_by false n = pred n
-
 abbrev pub arrival : Trains → ℕ
 arrival [] = 0
 arrival (t ∷ []) = 1
-arrival (t ∷ u ∷ ts) = arrival_by (nat_lt (length (t ∷ u ∷ ts)) most_trains && nat_le 4 (last_cars (t ∷ u ∷ ts))) (length (t ∷ u ∷ ts))
-
-abbrev pub one_if : Bool → ℕ
-one_if true = 1
-one_if false = 0
-
-abbrev pub is : ℕ → Obj → ℕ
-is x o = one_if (x == o.id)
+arrival (t ∷ u ∷ ts) =
+    let n = length (t ∷ u ∷ ts) in if nat_lt n most_trains && nat_le 4 (last_cars (t ∷ u ∷ ts)) then n else pred n
 
 -- how many of the objects have the identity x
 abbrev pub times : ℕ → List Obj → ℕ
-times x os = total (is x) os
+times x os = count_by (λ o. x == o.id) os
 
 abbrev pub among : ℕ → List Obj → Bool
 among x os = nat_lt 0 (times x os)
 
 -- what the object of identity x has inside, if it is among these
 abbrev pub inside : List Obj → ℕ → Option Body
-inside [] x = None
-inside (o ∷ os) x = elim (x == o.id) [ true ↦ Some o.body | false ↦ inside os x ]
+inside os x = option_map (λ o. o.body) (find (λ o. x == o.id) os)
 
 abbrev pub alter_object : ℕ → (Body → Body) → Obj → Obj
 alter_object x f o = record { id = o.id; body = cond (x == o.id) (f o.body) o.body }
 
-abbrev pub alter_objects : ℕ → (Body → Body) → List Obj → List Obj
-alter_objects x f [] = []
-alter_objects x f (o ∷ os) = alter_object x f o ∷ alter_objects x f os
+abbrev pub alter_car : ℕ → (Body → Body) → Car → Car
+alter_car x f c = record { number = c.number; objects = map (alter_object x f) c.objects }
 
 abbrev pub alter_train : ℕ → (Body → Body) → Train → Train
-alter_train x f [] = []
-alter_train x f (c ∷ cs) = record { number = c.number; objects = alter_objects x f c.objects } ∷ alter_train x f cs
+alter_train x f t = map (alter_car x f) t
 
 abbrev pub alter : ℕ → (Body → Body) → Trains → Trains
-alter x f [] = []
-alter x f (t ∷ ts) = alter_train x f t ∷ alter x f ts
+alter x f ts = map (alter_train x f) ts

@@ -9,46 +9,46 @@ ghost use Rattle.model.specs.Remembered.{OverlooksNothing, NoReferenceIsOverlook
 use layout::Layout;
 use remembered::RememberedSet;
 
-// At every halt each answer is the plain graph's, a make is refused as full exactly when the words would exceed the
-// capacity, and the roots reach the same in both.
+/// At every halt each answer is the plain graph's, a make is refused as full exactly when the words would exceed the
+/// capacity, and the roots reach the same in both.
 pub fn answers_are_the_plain_graphs()
     ensures { AnswersAreThePlainGraphs }
 {}
 
-// Cars and trains stand as told, a free car is there at every moment, a step copies at most the words of one car,
-// nothing reachable is lost, and nothing dangles.
+/// Cars and trains stand as told, a free car is there at every moment, a step copies at most the words of one car,
+/// nothing reachable is lost, and nothing dangles.
 pub fn steps_never_fail()
     ensures { StepsNeverFail }
 {}
 
-// With j the highest rank of a train that has waste, or that a mark on waste sends to, the waste of a halt is gone after
-// (j + 1) × 99,840 further steps, whatever else is called between them.
+/// With j the highest rank of a train that has waste, or that a mark on waste sends to, the waste of a halt is gone after
+/// (j + 1) × 99,840 further steps, whatever else is called between them.
 pub fn waste_near_the_front_leaves_sooner()
     ensures { WasteNearTheFrontLeavesSooner }
 {}
 
-// With t trains at a halt its waste is gone after (t + 1) × 99,840 further steps, whatever else is called between them.
+/// With t trains at a halt its waste is gone after (t + 1) × 99,840 further steps, whatever else is called between them.
 pub fn waste_leaves_in_counted_steps()
     ensures { WasteLeavesInCountedSteps }
 {}
 
-// From then on the words in use are at most those of the objects reachable at the halt and of the objects made after it.
+/// From then on the words in use are at most those of the objects reachable at the halt and of the objects made after it.
 pub fn words_in_use_are_of_the_reachable_and_the_new()
     ensures { WordsInUseAreOfTheReachableAndTheNew }
 {}
 
-// At every halt a lawful set has every slot that stands in a later car than the car of the object it holds.
+/// At every halt a lawful set has every slot that stands in a later car than the car of the object it holds.
 pub fn no_reference_is_overlooked()
     ensures { NoReferenceIsOverlooked }
 {}
 
-// All of these for a layout and a remembered set of the code, by what they mean.
+/// All of these for a layout and a remembered set of the code, by what they mean.
 pub fn laws_of<L: Layout, R: RememberedSet>()
     ensures uses { LawsOf L.Layout.meaning R.RememberedSet.means }
     ensures remembers { OverlooksNothing L.Layout.meaning R.RememberedSet.means }
 {}
 
-// What the definitions give for the worked examples.
+/// What the definitions give for the worked examples.
 pub fn worked_examples()
     ensures { WorkedExamples }
 {}
