@@ -1,13 +1,12 @@
 -- Two layouts beside each other: the first one's kinds come first, and the lowest bit of a header tells whose it is.
 use Rattle.std.specs.Prelude.{◌≡◌, ℕ, ◌+◌, ◌-◌, ◌<◌, min, Bool, true, false, if◌then◌else◌, ◌&&◌, nat_lt, refl}
-use Rattle.std.proofs.Common.{arith, inl, inr}
-use Rattle.std.proofs.lemmas.Bool.{cases_Bool}
+use Rattle.std.proofs.Common.{arith}
 use Rattle.std.proofs.lemmas.Bool.Decides.{nat_tests}
 use Rattle.layout.specs.declared.pair.Half.{Half}
 use Rattle.layout.specs.declared.pair.Half.TheVariants.{First, Second}
 use Rattle.layout.specs.Halves.{half_of, header_of, in_half, half_of-header_of}
 use Rattle.layout.specs.Meaning.{Meaning, Apart, Lawful}
-use Rattle.layout.specs.Coding.{Coding, Coded, GivesBack}
+use Rattle.layout.specs.Coding.{Coding, Coded}
 
 -- kinds beyond this number are not admitted
 abbrev pub most_kinds : ℕ
@@ -72,40 +71,18 @@ module _ (A : Meaning) (C : Coding) (B : Meaning) (D : Coding) where
   apart_half c d (First h) = c.apart h
   apart_half c d (Second h) = d.apart h
 
-  back_first : Coded A C → (k r w : ℕ) → nat_lt k A.kinds ≡ true → (pair_meaning A C B D).admits k r w ≡ true
-      → GivesBack (pair_meaning A C B D) (pair_coding A C D) k r w
-  back_first c k r w e a =
-      let o = own_first k r w e a in
-      let own = c.gives_back k r w o.0 in
-      let back = half_of-header_of (First (C.code k r w)) in
-      record {
-        fits = rw e (omega arith);
-        refs = rw (e, back) own.refs;
-        words = rw (e, back) own.words;
-        ref_offsets = λ i h. rw (e, back) (own.ref_offsets i (rw e at h));
-        word_offsets = λ j h. rw (e, back) (own.word_offsets j (rw e at h));
-      }
-
-  back_second : Coded B D → (k r w : ℕ) → nat_lt k A.kinds ≡ false → (pair_meaning A C B D).admits k r w ≡ true
-      → GivesBack (pair_meaning A C B D) (pair_coding A C D) k r w
-  back_second d k r w e a =
-      let o = own_second k r w e a in
-      let own = d.gives_back (k - A.kinds) r w o.0 in
-      let back = half_of-header_of (Second (D.code (k - A.kinds) r w)) in
-      record {
-        fits = rw e (omega arith);
-        refs = rw (e, back) own.refs;
-        words = rw (e, back) own.words;
-        ref_offsets = λ i h. rw (e, back) (own.ref_offsets i (rw e at h));
-        word_offsets = λ j h. rw (e, back) (own.word_offsets j (rw e at h));
-      }
-
   pub pair_coded : Coded A C → Coded B D → Coded (pair_meaning A C B D) (pair_coding A C D)
   pair_coded c d = record {
     few_kinds = omega arith;
     apart = λ h. apart_half c d (half_of h);
-    gives_back = λ k r w a. elim (cases_Bool (nat_lt k A.kinds)) [
-      | inl e ↦ back_first c k r w e a
-      | inr e ↦ back_second d k r w e a
-    ];
+    gives_back = λ k r w a.
+        let first = c.gives_back k r w in
+        let second = d.gives_back (k - A.kinds) r w in
+        record {
+          fits = grind (arith, nat_tests);
+          refs = grind (arith, nat_tests, half_of-header_of, first, second);
+          words = grind (arith, nat_tests, half_of-header_of, first, second);
+          ref_offsets = λ i h. grind (arith, nat_tests, half_of-header_of, first, second);
+          word_offsets = λ j h. grind (arith, nat_tests, half_of-header_of, first, second);
+        };
   }
