@@ -1,4 +1,5 @@
 // The whole space. References are found by looking at every object that lies in a car.
+use crate::counts::total;
 use crate::failure::Failure;
 use crate::objects::{Object, ObjectId, Place, Shape};
 use crate::requests::MoveRequest;
@@ -70,13 +71,8 @@ impl Space {
     }
 
     pub(crate) fn words_in_use(&self) -> usize {
-        self.objects
-            .iter()
-            .filter(|object| object.place.is_some())
-            .fold(
-                0,
-                |words: usize, object| words.saturating_add(object.size()),
-            )
+        let in_cars = self.objects.iter().filter(|object| object.place.is_some());
+        total(in_cars.map(Object::size))
     }
 
     /// Places a new object at the arrival rank.

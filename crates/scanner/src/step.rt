@@ -1,5 +1,5 @@
 // One step of the collector: the first train is freed whole, or its first car is emptied.
-use crate::counts::capped;
+use crate::counts::{capped, total};
 use crate::failure::Failure;
 use crate::objects::ObjectId;
 use crate::requests::{MoveRequest, MoveRequests};
@@ -34,9 +34,7 @@ impl Space {
 
     // All pairs that the remembered set has for these cars.
     fn pairs_for(&self, cars: &[usize]) -> usize {
-        cars.iter().fold(0, |pairs: usize, car| {
-            pairs.saturating_add(self.remembered.count(*car))
-        })
+        total(cars.iter().map(|car| self.remembered.count(*car)))
     }
 
     fn free_train(&mut self, cars: &[usize], looked: usize) -> Report {

@@ -1,4 +1,5 @@
 // Trains in a row, each a row of cars, each a row of objects.
+use crate::counts::total;
 use crate::failure::Failure;
 use crate::objects::{CAR_WORDS, ObjectId, Place};
 use std::alloc::{AllocError, Global};
@@ -96,10 +97,7 @@ impl Trains {
 
     /// How many cars the trains have together.
     pub(crate) fn cars(&self) -> usize {
-        self.by_rank.iter().fold(
-            0,
-            |cars: usize, train| cars.saturating_add(train.cars.len()),
-        )
+        total(self.by_rank.iter().map(|train| train.cars.len()))
     }
 
     pub(crate) fn arrival_rank(&self) -> usize {
