@@ -1,14 +1,15 @@
 -- Laws of the card set.
-use Rattle.std.specs.Prelude.{◌≡◌, ℕ, ◌/◌, ◌<◌, Bool, true, false, cond, not, ◌&&◌, ◌||◌, List, [], ◌∷◌, zero, suc, replicate, slice_index_or, ◌==◌, nat_lt, refl}
-use Rattle.std.proofs.Common.{sym, ap, subst, ◌∙◌, ⊎_elim, arith}
-use Rattle.std.proofs.lemmas.Bool.{eq-eqb, ne_eqb, eqb-true, and_from, and_right, and_parts, lt-ltb, ltb-true, or_left, or_right, or_cases}
+use Rattle.std.specs.Prelude.{◌≡◌, ℕ, ◌/◌, ◌<◌, Bool, true, false, not, ◌&&◌, ◌||◌, List, [], ◌∷◌, zero, suc, replicate, slice_index_or, ◌==◌, nat_lt, refl}
+use Rattle.std.proofs.Common.{sym, ap, ◌∙◌, ⊎_elim, arith}
+use Rattle.std.proofs.lemmas.Bool.{cases_Bool, cond_both, eq-eqb, ne_eqb, and_from, and_right, and_parts, lt-ltb, ltb-true, or_left, or_right}
 use Rattle.remembered.specs.declared.Pair.{Pair}
 use Rattle.remembered.specs.BitRow.{bit_in}
-use Rattle.remembered.specs.Laws.{in_range}
+use Rattle.remembered.specs.Laws.{in_range, new_in}
+use Rattle.std.proofs.lemmas.Grind.{common_steps}
 use Rattle.remembered.specs.Meaning.{note, forget, Lawful}
-use Rattle.remembered.specs.Pairs.{pair, is_pair, within, without}
+use Rattle.remembered.specs.Pairs.{within, without}
 use Rattle.remembered.specs.Cards.{card_in, card_note, card_run, card_has, marked, CardNoted, CardForgot, CardTold}
-use Rattle.remembered.specs.PairLists.{swap_and, and_none, or_none, within-without, bool_ext, pair_parts, pair_from}
+use Rattle.remembered.specs.PairLists.{swap_and, and_none, within-without}
 use Rattle.remembered.specs.BitRowLaws.{past_row}
 
 pub range_from : (c a : ℕ) → c < 64 → a < 8192 → in_range c a ≡ true
@@ -21,32 +22,18 @@ range_parts c a e = let p = and_parts (nat_lt c 64) (nat_lt a 8192) e in (ltb-tr
 abbrev hits : ℕ → ℕ → ℕ → ℕ → Bool
 hits c a d b = in_range c a && (d == c && b / 16 == a / 16)
 
-hit_parts : (c a d b : ℕ) → hits c a d b ≡ true → (c < 64) × (a < 8192) × (d ≡ c) × (b / 16 ≡ a / 16)
-hit_parts c a d b e =
-    let p = and_parts (in_range c a) (d == c && b / 16 == a / 16) e in
-    let q = and_parts (d == c) (b / 16 == a / 16) p.1 in
-    let r = range_parts c a p.0 in
-    (r.0, r.1, eqb-true d c q.0, eqb-true (b / 16) (a / 16) q.1)
-
 -- one card more
 pub card_step : (c a : ℕ) (cs : List Pair) (d b : ℕ) → card_in (card_note c a cs) d b ≡ (card_in cs d b || hits c a d b)
-card_step c a cs d b = go (in_range c a) (card_in cs c a) refl refl
+card_step c a cs d b = cond_both (new_in (card_in cs) c a) _ _ (λ x. card_in x d b ≡ (card_in cs d b || hits c a d b)) (λ e. grind (arith, common_steps)) (λ e. old e)
   where
-    go : (i m : Bool) → in_range c a ≡ i → card_in cs c a ≡ m → (in_range d b && within (cond (i && not m) (pair c (a / 16) ∷ cs) cs) d (b / 16)) ≡ ((in_range d b && within cs d (b / 16)) || (i && (d == c && b / 16 == a / 16)))
-    go false m e f = sym (or_none _)
-    go true true e f =
-        bool_ext (in_range d b && within cs d (b / 16)) ((in_range d b && within cs d (b / 16)) || (d == c && b / 16 == a / 16)) (or_left _ _)
-        (λ t. ⊎_elim (λ x. x) (λ x. let q = hit_parts c a d b (and_from _ _ e x) in and_from _ _ (range_from d b (omega arith) (omega arith)) (subst (λ m. within cs m (b / 16) ≡ true) (sym q.2) (subst (λ m. within cs c m ≡ true) (sym q.3) (and_parts _ _ f).1))) (or_cases _ _ t))
-    go true false e f =
-        bool_ext (in_range d b && (is_pair (pair c (a / 16)) d (b / 16) || within cs d (b / 16))) ((in_range d b && within cs d (b / 16)) || (d == c && b / 16 == a / 16))
-        (λ t.
-        let p = and_parts (in_range d b) _ t in
-        ⊎_elim (λ x. let q = pair_parts (pair c (a / 16)) d (b / 16) x in or_right (in_range d b && within cs d (b / 16)) _ (and_from (d == c) (b / 16 == a / 16) (eq-eqb d c (sym q.0)) (eq-eqb (b / 16) (a / 16) (sym q.1)))) (λ x. or_left _ _ (and_from (in_range d b) _ p.0 x)) (or_cases _ _ p.1))
-        (λ t.
+    old : new_in (card_in cs) c a ≡ false → card_in cs d b ≡ (card_in cs d b || hits c a d b)
+    old e =
         ⊎_elim
-        (λ x. let p = and_parts (in_range d b) _ x in and_from (in_range d b) _ p.0 (or_right (is_pair (pair c (a / 16)) d (b / 16)) _ p.1))
-        (λ x. let q = hit_parts c a d b (and_from _ _ e x) in and_from (in_range d b) _ (range_from d b (omega arith) (omega arith)) (or_left _ _ (pair_from (pair c (a / 16)) d (b / 16) (sym q.2) (sym q.3))))
-        (or_cases _ _ t))
+        (λ (h : hits c a d b ≡ true).
+        let there : card_in cs c a ≡ card_in cs d b = grind (arith, common_steps) in
+        grind (arith, common_steps, there))
+        (λ (h : hits c a d b ≡ false). grind (arith, common_steps))
+        (cases_Bool (hits c a d b))
 
 pub card_unstep : (c : ℕ) (cs : List Pair) (d b : ℕ) → card_in (without c cs) d b ≡ (not (d == c) && card_in cs d b)
 card_unstep c cs d b = ap (λ x. in_range d b && x) (within-without c cs d (b / 16)) ∙ swap_and (in_range d b) (not (d == c)) (within cs d (b / 16))
