@@ -18,7 +18,7 @@ count '1c enums of the shape of a Result or with the same fields in each variant
     "$(grep -nE 'enum (Halt|Token|Layer)|fn has_(cards|buffer)|fn message' $code)"
 count '2 twins' "$(python3 "$tools/twins.py" .. | sed '$d')"
 count '3 loops that count by hand' \
-    "$(grep -nE '^ *(while |for [a-z]+ in [0-9a-zA-Z_.=]*\.\.)' */src/*.rt | grep -v 'while let')"
+    "$(grep -nE '^ *(while |for [a-z]+ in [^{(]*\.\.)' */src/*.rt | grep -v 'while let')"
 count '4a casts' "$(grep -noE ' as (usize|u8|u16|u32|u64|i32|i64)\b' $code)"
 count '4b matches of an Option by hand: the arm None, and let .. else' \
     "$(grep -nE '^ *None =>|let Some\(.*else' $code)"
@@ -28,11 +28,11 @@ count '5b parameters, two or more, that stand together three times or more' \
     "$(grep -hoE 'fn [a-z_0-9]+(<[^>]*>)?\([^)]*\)' $code | sed -E "s/^fn [a-z_0-9]+(<[^>]*>)?\((&(mut )?self, )?//; s/\)$//" |
         grep ', ' | sort | uniq -c | awk '$1 > 2')"
 count '6 fields that are arrays, rows or maps' \
-    "$(grep -nE '^    (pub )?[a-z_]+: .*(\[[^;]*; |Vec<|Set<|Map<|Deque<)[^ ]*,$' $code)"
+    "$(grep -nE '^ +(pub(\([a-z]+\))? )?[a-z_]+: (\[[^;]*; [^ ]*\]|Vec<.*|ArrayVec<.*|ArrayString<.*|BTreeSet<.*|VecDeque<.*|Option<Vec<.*),$' $code | grep -v ': &')"
 count '7 switches by a flag in specs' \
     "$(grep -nE '^abbrev pub [^ ]+ : (\([a-z_ -]+ : Bool\)|Bool) →' */specs/*.antt)"
-count '8 files of answers' "$(find . -path '*/proofs/*' -name Answers.antt | sort)"
+count '8 files of answers' "$(find */proofs -name Answers.antt | sort)"
 printf 'lines of answers %s, of other proofs %s, of specs %s\n' \
-    "$(find . -path '*/proofs/*' -name Answers.antt -exec cat {} + | wc -l)" \
-    "$(find . -path '*/proofs/*' -name '*.antt' ! -name Answers.antt -exec cat {} + | wc -l)" \
+    "$(find */proofs -name Answers.antt -exec cat {} + | wc -l)" \
+    "$(find */proofs -name '*.antt' ! -name Answers.antt -exec cat {} + | wc -l)" \
     "$(cat */specs/*.antt | wc -l)"
