@@ -2,7 +2,7 @@
 use crate::failure::Failure;
 use crate::sets::Choice;
 use crate::space::Space;
-use script::{LINE_ROOM, TooLong, line_at, lines_within, read, write_answer, write_fault};
+use script::{LINE_ROOM, Lines, TooLong, lines_within, read, write_answer, write_fault};
 use std::alloc::Global;
 use thiserror::Error;
 
@@ -15,23 +15,6 @@ pub enum PlayError {
     /// The player could not go on.
     #[error("stopped: {0}")]
     Stopped(#[from] Failure),
-}
-
-// The lines of a script from the byte `start` on, by their texts.
-#[derive(Drop)]
-struct Lines<'a> {
-    script: &'a [u8],
-    start: usize,
-}
-
-impl<'a> Iterator for Lines<'a> {
-    type Item = &'a [u8];
-
-    fn next(&mut self) -> Option<&'a [u8]> {
-        let line = line_at(self.script, self.start)?;
-        self.start = line.next;
-        Some(line.text)
-    }
 }
 
 /// The output of a script. A fault of the reader is told in the last line, after which nothing is played.
@@ -50,7 +33,7 @@ fn play_lines(
     let mut space = Space::open(heap, choice);
     let mut output = vec![in heap; 0u8; lines.saturating_mul(LINE_ROOM)]?;
     let mut written = 0;
-    for (number, text) in (1..=u32::MAX).zip(Lines { script, start: 0 }) {
+    for (number, text) in (1..=u32::MAX).zip(Lines::new(script)) {
         match read(text, number) {
             Ok(call) => {
                 let answer = space.answer(call)?;
