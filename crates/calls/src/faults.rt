@@ -53,6 +53,7 @@ impl LineFault {
     }
 }
 
+// The conversions are written out, since their clauses say what a fault keeps on its way up.
 impl From<WordFault> for LineFault {
     ghost from_gives = { λ word line. line ≡ line_fault word };
 

@@ -40,6 +40,7 @@ impl Layout for Array {
         0
     }
 
+    // Only which run of words is meant stands here and below; the arithmetic is the run's.
     fn reference_offset(header: u32, i: u32) -> Option<u32> {
         Run::behind_header(Self::references(header)).offset_of(i)
     }

@@ -36,6 +36,8 @@ impl<A: Layout, B: Layout> Layout for Pair<A, B> {
         half.header()
     }
 
+    // From here on each function asks the half that the header belongs to. One function that takes both
+    // calls as closures would be no plainer, since they would be named all the same.
     fn references(header: u32) -> u32 {
         match Half::from(header) {
             Half::First(own) => A::references(own),

@@ -43,6 +43,7 @@ impl Layout for Record {
         shape(header) / 16
     }
 
+    // Only which run of words is meant stands here and below; the arithmetic is the run's.
     fn reference_offset(header: u32, i: u32) -> Option<u32> {
         Run::behind_header(Self::references(header)).offset_of(i)
     }

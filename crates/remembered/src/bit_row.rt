@@ -67,6 +67,7 @@ impl<const W: usize> BitRow<W> {
         ensures least { Least (bit_in self.now) from result }
         ensures within { IfSome result (λ k. k < 64 * W) }
     {
+        // The place of the word is part of the answer, so the loop counts places.
         for i in from as usize / 64..W {
             let first = 64 * i as u32;
             if let Some(k) = next_in_word(self.words[i], from.saturating_sub(first)) {

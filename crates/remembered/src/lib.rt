@@ -26,7 +26,8 @@ pub const CARS: usize = 64;
 /// How many addresses there are.
 pub const ADDRESSES: u32 = 8192;
 
-// Whether a car and an address can be paired.
+// Whether a car and an address can be paired. Both are `u32`, as the callers have them; `usize` has no `From<u32>`, so
+// where one is an index it is widened by `as`, here and in the sets.
 fn is_in_range(car: u32, address: u32) -> bool
     ensures { result ≡ in_range car address }
 {

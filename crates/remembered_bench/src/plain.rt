@@ -8,6 +8,7 @@ fn note_drawn(table: &mut [bool], from: u32) -> u32 {
     let mut seed = from;
     for _ in 0..1500 {
         seed = draw(seed);
+        // `usize` has no `From<u32>`.
         let place = car_of(seed) as usize * 8192 + address_of(seed) as usize;
         if place < table.len() {
             table[place] = true;

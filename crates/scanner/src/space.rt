@@ -52,10 +52,12 @@ impl Space {
         }
     }
 
+    /// The object of a number, to look at.
     pub(crate) fn object(&self, id: ObjectId) -> Result<&Object, Failure> {
         self.objects.get(id.0).ok_or(Failure::NoObject)
     }
 
+    /// The same, to change: a twin by its borrow alone.
     pub(crate) fn object_mut(&mut self, id: ObjectId) -> Result<&mut Object, Failure> {
         self.objects.get_mut(id.0).ok_or(Failure::NoObject)
     }

@@ -79,6 +79,8 @@ pub fn write_answer(out: &mut [u8], at: usize, answer: &Answer) -> Option<usize>
     line.write(out, at)
 }
 
+// What the two functions share is in `Line`; the rest is which part is put into it. `None` has one reason, so an error
+// type would say no more.
 /// Writes a fault's line in the same way.
 pub fn write_fault(out: &mut [u8], at: usize, fault: &PlayerFault) -> Option<usize>
     ensures { WritesLine out.old at (fault_line fault.now) out.new result }
