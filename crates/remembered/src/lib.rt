@@ -35,7 +35,8 @@ fn is_in_range(car: u32, address: u32) -> bool
 }
 
 /// A set of pairs of a car below 64 and an address below 8,192. Code over any set is right by what the set
-/// has; a set may have more than it was told.
+/// has; a set may have more than it was told. A car stands by itself in its functions, since `next` and `forget` take no
+/// address of a pair.
 pub trait RememberedSet: Sized {
     // whether the set has the pair of a car and an address
     ghost has: { Self → ℕ → ℕ → Bool };

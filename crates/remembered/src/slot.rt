@@ -43,6 +43,8 @@ impl Model for CarPairs {
     ghost inverse_ok = { λ p h i. record { kept = p.kept; overflown = p.overflown; count = sym h i } };
 }
 
+// An address or a car that these functions and the set's own take is in range by `requires`: `is_in_range` asks once, where
+// a call comes in.
 impl CarPairs {
     // No pair is kept, and the car is not overflown.
     fn none() -> CarPairs

@@ -48,6 +48,7 @@ impl<'a> NumberedLine<'a> {
         ensures { result ≡ counted self.entry.number self.entry.text.now count }
     {
         nth_word(self.text, count).ok_or(LineFault::Words(self.at(self.text.len())))?;
+        // A `match`, since it is the word that is there which makes the fault.
         match nth_word(self.text, count + 1) {
             None => Ok(()),
             Some(surplus) => Err(LineFault::Words(self.at(surplus.place()))),
