@@ -27,6 +27,11 @@ abbrev pub in_half : {X : Type 0} → (first second : ℕ → X) → Half → X
 in_half f g (First h) = f h
 in_half f g (Second h) = g h
 
+-- what holds of the header in the half's own layout
+abbrev pub OfHalf : (first second : ℕ → Type 0) → Half → Type 0
+OfHalf P Q (First h) = P h
+OfHalf P Q (Second h) = Q h
+
 pub half_of-header_of : (x : Half) → half_of (header_of x) ≡ x
 half_of-header_of (First h) = grind (arith, nat_tests)
 half_of-header_of (Second h) = grind (arith, nat_tests)

@@ -36,41 +36,30 @@ impl<A: Layout, B: Layout> Layout for Pair<A, B> {
         half.header()
     }
 
-    // From here on each function asks the half that the header belongs to. One function that takes both
-    // calls as closures would be no plainer, since they would be named all the same.
     fn references(header: u32) -> u32 {
-        match Half::from(header) {
-            Half::First(own) => A::references(own),
-            Half::Second(own) => B::references(own),
-        }
+        Half::from(header).ask(|own| A::references(own), |own| B::references(own))
     }
 
     fn data_words(header: u32) -> u32 {
-        match Half::from(header) {
-            Half::First(own) => A::data_words(own),
-            Half::Second(own) => B::data_words(own),
-        }
+        Half::from(header).ask(|own| A::data_words(own), |own| B::data_words(own))
     }
 
     fn reference_offset(header: u32, i: u32) -> Option<u32> {
-        match Half::from(header) {
-            Half::First(own) => A::reference_offset(own, i),
-            Half::Second(own) => B::reference_offset(own, i),
-        }
+        Half::from(header).ask(
+            |own| A::reference_offset(own, i),
+            |own| B::reference_offset(own, i),
+        )
     }
 
     fn word_offset(header: u32, j: u32) -> Option<u32> {
-        match Half::from(header) {
-            Half::First(own) => A::word_offset(own, j),
-            Half::Second(own) => B::word_offset(own, j),
-        }
+        Half::from(header).ask(|own| A::word_offset(own, j), |own| B::word_offset(own, j))
     }
 
     fn reference_at(header: u32, offset: u32) -> Option<u32> {
-        match Half::from(header) {
-            Half::First(own) => A::reference_at(own, offset),
-            Half::Second(own) => B::reference_at(own, offset),
-        }
+        Half::from(header).ask(
+            |own| A::reference_at(own, offset),
+            |own| B::reference_at(own, offset),
+        )
     }
 }
 
@@ -98,7 +87,23 @@ impl From<u32> for Half {
 }
 
 impl Half {
-    ghost use Rattle.layout.specs.Halves.{own_header, header_of};
+    ghost use Rattle.layout.specs.Halves.{own_header, header_of, OfHalf};
+
+    /// What the half's own layout says of its header.
+    fn ask<R, F: FnOnce(u32) -> R + Copy, G: FnOnce(u32) -> R + Copy>(
+        self,
+        first: F,
+        second: G,
+    ) -> R
+        requires first { F.IsAlwaysCallable first }
+        requires second { G.IsAlwaysCallable second }
+        ensures { OfHalf (λ own. F.post first own result) (λ own. G.post second own result) self }
+    {
+        match self {
+            Half::First(own) => first(own),
+            Half::Second(own) => second(own),
+        }
+    }
 
     /// The header of the pair, if it fits a word.
     fn header(self) -> Option<u32>
