@@ -13,6 +13,7 @@ use arrayvec::ArrayVec;
 // How many pairs a buffer holds.
 const BUFFER_PLACES: usize = 16;
 
+// No `impl Model`: the trait's law `bounded` is of every value, and a list that no buffer holds need not be in range.
 /// A set below, and the pairs held above it, the oldest first.
 #[derive(Drop)]
 pub struct Buffered<S> {
