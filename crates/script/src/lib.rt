@@ -2,5 +2,5 @@
 #![tactic(auto)]
 
 pub use calls::{Answer, Call, Freed, LineFault, PlayerFault, Refusal, Report, Usage, WordFault};
-pub use script_reader::{Line, TooLong, line_at, lines_within, read};
+pub use script_reader::{Line, Lines, TooLong, line_at, lines_within, read};
 pub use script_writer::{LINE_ROOM, write_answer, write_fault};

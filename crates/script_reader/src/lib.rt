@@ -8,5 +8,5 @@ mod pieces;
 pub mod reader;
 pub mod words;
 
-pub use lines::{Line, TooLong, line_at, lines_within};
+pub use lines::{Line, Lines, TooLong, line_at, lines_within};
 pub use reader::read;
