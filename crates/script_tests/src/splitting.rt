@@ -1,5 +1,5 @@
 // Where the lines of a script begin and end.
-use script::{Line, TooLong, line_at, lines_within};
+use script::{Line, Lines, TooLong, line_at, lines_within};
 use std::process::Abort;
 
 fn counts(rt: &impl Abort, script: &[u8], wanted: Result<usize, TooLong>) {
@@ -37,4 +37,13 @@ fn line_after_line(rt: HostRuntime) {
     assert_eq!(rt; line_at(script, 11), None);
     assert_eq!(rt; line_at(b"step\n", 5), None);
     assert_eq!(rt; line_at(b"", 0), None);
+}
+
+#[test]
+fn lines_come_in_order(rt: HostRuntime) {
+    let mut lines = Lines::new(b"step\n\ntally");
+    assert_eq!(rt; lines.next(), Some(b"step".as_slice()));
+    assert_eq!(rt; lines.next(), Some(b"".as_slice()));
+    assert_eq!(rt; lines.next(), Some(b"tally".as_slice()));
+    assert_eq!(rt; lines.next(), None);
 }
