@@ -2,7 +2,9 @@
 use Rattle.std.proofs.Common.{subst, ◌∙◌, ◌≡◌, ℕ, ◌<◌, Bool, true, false, ◌&&◌, ltb, leb, length, get_or, Some, None, Option, refl, arith, option_map, ap}
 use Rattle.std.proofs.lemmas.Bool.{ltb-true}
 use Rattle.std.specs.Prelude.{find}
-use Rattle.model.specs.Calls.{Access, link, follow, drop, put, lift, get, words, same, Refusal, root, missing, buffer}
+use Rattle.calls.specs.declared.answer.Refusal.{Refusal}
+use Rattle.calls.specs.declared.answer.Refusal.TheVariants.{Root as root, Missing as missing, Buffer as buffer}
+use Rattle.model.specs.Calls.{Access, link, follow, drop, put, lift, get, words, same}
 use Rattle.model.specs.Bodies.{Body, Roots, held, is_root, Effect, leave, hold, point, store, Reply, object_of, unless, on_object, lifted, store_lifted, reply_of}
 
 -- a root holds x, whose object has b inside

@@ -2,20 +2,18 @@
 use Rattle.std.proofs.Common.{◌≡◌, ℕ, ◌+◌, Bool, true, false, refl, arith, not}
 use Rattle.std.proofs.lemmas.Bool.{lt-leb}
 use Rattle.std.specs.Prelude.{replicate}
-use Rattle.calls.specs.Answers.{refusal_number}
-use Rattle.calls.specs.declared.answer.Refusal.{Refusal as ToldRefusal}
-use Rattle.calls.specs.declared.answer.Refusal.TheVariants.{Root, Empty, Missing, Shape, Full, Range, Buffer}
+use Rattle.calls.specs.declared.answer.Refusal.TheVariants.{Full as full}
 use Rattle.layout.specs.Product.{product_meaning}
 use Rattle.layout.specs.Pair.{pair_lawful}
 use Rattle.layout.specs.Record.{record_meaning, record_coding, record_lawful, record_coded}
 use Rattle.layout.specs.Array.{array_meaning, array_coding, array_lawful}
 use Rattle.remembered.specs.Slots.{slot_has}
 use Rattle.layout.specs.Meaning.{Lawful}
-use Rattle.model.specs.Calls.{make, refused, full, number}
+use Rattle.model.specs.Calls.{make, refused}
 use Rattle.model.specs.Bodies.{fresh, size, is_root, make_outcome}
 use Rattle.model.specs.Trains.{words_in_use, capacity}
 use Rattle.model.specs.Space.{Model, opening, act, made_by}
-use Rattle.model.specs.Examples.{WorkedExamples, refusal_of, behind}
+use Rattle.model.specs.Examples.{WorkedExamples, behind}
 use Rattle.model.proofs.Cars.{fresh_sized}
 
 product_lawful : Lawful product_meaning
@@ -39,19 +37,10 @@ no_room r k a b p q =
     by_tests _ _ _ filled (made_by (fresh product_meaning k a b) r filled) p q
     (lt-leb (words_in_use filled.trains + size (fresh product_meaning k a b)) capacity (omega (arith, filled_words, (fresh_sized product_meaning product_lawful k a b q).0)))
 
-codes : (r : ToldRefusal) → number (refusal_of r) ≡ refusal_number r
-codes Root = refl
-codes Empty = refl
-codes Missing = refl
-codes Shape = refl
-codes Full = refl
-codes Range = refl
-codes Buffer = refl
-
 pub examples : WorkedExamples
 unfolding filled
 examples = record {
-  numbers_are_the_codes = codes;
+  numbers_are_the_codes = refl;
   cycle_across_two_trains = refl;
   cycle_with_cards = refl;
   records_have_a_word = refl;

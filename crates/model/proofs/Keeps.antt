@@ -5,9 +5,11 @@ use Rattle.std.specs.List.{AllByRecursion}
 use Rattle.std.specs.Prelude.{option_map, find}
 use Rattle.std.proofs.lemmas.List.Sums.{sum_by-append}
 use Rattle.std.proofs.lemmas.List.{length-map}
+use Rattle.calls.specs.declared.answer.Refusal.{Refusal}
+use Rattle.calls.specs.declared.answer.Refusal.TheVariants.{Root as root, Shape as shape, Full as full}
 use Rattle.layout.specs.Meaning.{Meaning, Lawful}
 use Rattle.remembered.specs.Meaning.{Meaning as Remembers}
-use Rattle.model.specs.Calls.{Call, make, access, step, tally, Access, History, Refusal, root, shape, full, refused, done}
+use Rattle.model.specs.Calls.{Call, make, access, step, tally, Access, History, refused, done}
 use Rattle.model.specs.Bodies.{Body, held, fresh, size, with_ref, with_value, is_root, root_count, Effect, leave, hold, point, store, reply_of, make_outcome, Outcome, outcome}
 use Rattle.model.specs.Trains.{Obj, Car, Train, Trains, train_objects, objects, words_of, words_in_use, obj_size, times, among, inside, alter, alter_object, place, place_at, arrival, numbers, lowest_free, capacity, most_trains, alter_train}
 use Rattle.model.specs.Claims.{Wish, Claim, claims, ref_wishes, train_wishes, trains_wishes}

@@ -1,8 +1,10 @@
 -- What an object has inside, and what a call on the roots' objects answers and changes.
 use Rattle.std.specs.Prelude.{ℕ, ◌+◌, ◌-◌, Bool, ◌&&◌, List, length, replicate, ℤ, pos, negsuc, Some, None, Option, nat_le, nat_lt, slice_index, slice_index_or, slice_set, find, nat_eq, option_and_then, option_map, if◌then◌else◌, not}
 use Rattle.std.specs.Option.{option_eq}
+use Rattle.calls.specs.declared.answer.Refusal.{Refusal}
+use Rattle.calls.specs.declared.answer.Refusal.TheVariants.{Root as root, Empty as empty, Missing as missing, Shape as shape, Full as full, Range as range, Buffer as buffer}
 use Rattle.layout.specs.Meaning.{Meaning}
-use Rattle.model.specs.Calls.{Access, link, follow, drop, put, lift, get, words, same, Refusal, root, empty, missing, range, buffer, Answer, refused, done, value, wrote, alike, shape, full}
+use Rattle.model.specs.Calls.{Access, link, follow, drop, put, lift, get, words, same, Answer, refused, done, value, wrote, alike}
 
 pub record Shape : Type 0 where
   pub kind : ℕ

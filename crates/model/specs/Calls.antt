@@ -1,5 +1,9 @@
 -- The calls of a space, what they answer, and the history of a use.
 use Rattle.std.specs.Prelude.{ℕ, Bool, true, false, List, [], ◌∷◌, ℤ, ⊤}
+use Rattle.calls.specs.declared.answer.Refusal.{Refusal}
+use Rattle.calls.specs.declared.answer.Refusal.TheVariants.{Root as root, Empty as empty, Missing as missing, Shape as shape, Full as full, Range as range, Buffer as buffer}
+use Rattle.calls.specs.declared.answer.Report.{Report}
+use Rattle.calls.specs.declared.answer.Usage.{Usage}
 
 -- a call on what the roots hold; of a buffer the call has its length
 pub data Access : Type 0 where
@@ -18,48 +22,8 @@ pub data Call : Type 0 where
   step : Call
   tally : Call
 
--- why a call is refused
-pub data Refusal : Type 0 where
-  root : Refusal
-  empty : Refusal
-  missing : Refusal
-  shape : Refusal
-  full : Refusal
-  range : Refusal
-  buffer : Refusal
-
-abbrev pub number : Refusal → ℕ
-number root = 1
-number empty = 2
-number missing = 3
-number shape = 4
-number full = 5
-number range = 6
-number buffer = 7
-
--- what a step did
-pub data Freed : Type 0 where
-  idle : Freed
-  train : Freed
-  car : Freed
-
-pub record Report : Type 0 where
-  pub kind : Freed
-  -- objects carried out of the first train, and back into it
-  pub out : ℕ
-  pub back : ℕ
-  pub copied : ℕ
-  pub lost : ℕ
-  pub looked : ℕ
-  pub cars : ℕ
-
-pub record Usage : Type 0 where
-  pub words : ℕ
-  pub cars : ℕ
-  pub trains : ℕ
-  pub mark : Bool
-
--- wrote has the data words put to the front of the buffer; their number is what the call answers
+-- Refusals, reports and usage are those of crate `calls`. wrote has the data words put to the front of the buffer; their
+-- number is what the call answers
 pub data Answer : Type 0 where
   refused : Refusal → Answer
   done : Answer

@@ -1,15 +1,15 @@
 -- Worked examples: what the definitions give, with the product's layout.
-use Rattle.std.specs.Prelude.{◌≡◌, ℕ, true, false, List, [], ◌∷◌, pos, negsuc, Err, codes, replicate}
+use Rattle.std.specs.Prelude.{◌≡◌, ℕ, true, false, List, [], ◌∷◌, pos, negsuc, Err, codes, replicate, map}
+use Rattle.calls.specs.declared.answer.Refusal.TheVariants.{Root as root, Empty as empty, Missing as missing, Shape as shape, Full as full, Range as range, Buffer as buffer}
+use Rattle.calls.specs.declared.answer.Freed.TheVariants.{Train as train, Car as car}
 use Rattle.script_reader.specs.Reader.{player_of}
 use Rattle.calls.specs.Answers.{refusal_number}
-use Rattle.calls.specs.declared.answer.Refusal.{Refusal as ToldRefusal}
-use Rattle.calls.specs.declared.answer.Refusal.TheVariants.{Root, Empty, Missing, Shape, Full, Range, Buffer}
 use Rattle.calls.specs.Faults.{player_fault, line_fault, no_number, bad_words}
 use Rattle.layout.specs.Product.{product_meaning}
 use Rattle.remembered.specs.Slots.{slot_has}
 use Rattle.remembered.specs.Cards.{card_has}
 use Rattle.remembered.specs.Meaning.{Meaning as Remembers}
-use Rattle.model.specs.Calls.{Call, make, access, step, tally, link, drop, put, lift, get, same, Answer, refused, done, value, alike, usage, report, shape, full, range, car, train, Refusal, number, root, empty, missing, buffer}
+use Rattle.model.specs.Calls.{Call, make, access, step, tally, link, drop, put, lift, get, same, Answer, refused, done, value, alike, usage, report}
 use Rattle.model.specs.Bodies.{is_root}
 use Rattle.model.specs.Space.{Model, opening, act}
 
@@ -39,19 +39,9 @@ cycle_answers n =
 abbrev pub lift_from : (v : ℕ) → Call → List Call
 lift_from v c = make 0 0 0 1 ∷ access (put 0 0 v) ∷ c ∷ access (get 0 0) ∷ []
 
--- a refusal of the script's answers as one of the space
-abbrev pub refusal_of : ToldRefusal → Refusal
-refusal_of Root = root
-refusal_of Empty = empty
-refusal_of Missing = missing
-refusal_of Shape = shape
-refusal_of Full = full
-refusal_of Range = range
-refusal_of Buffer = buffer
-
 pub record WorkedExamples : Type 0 where
-  -- the numbers of refusals are the codes of output lines
-  pub numbers_are_the_codes : (r : ToldRefusal) → number (refusal_of r) ≡ refusal_number r
+  -- the numbers of refusals, which are the codes of output lines
+  pub numbers_are_the_codes : map refusal_number (root ∷ empty ∷ missing ∷ shape ∷ full ∷ range ∷ buffer ∷ []) ≡ 1 ∷ 2 ∷ 3 ∷ 4 ∷ 5 ∷ 6 ∷ 7 ∷ []
   pub cycle_across_two_trains : answers slot_has cycle opening ≡ cycle_answers 1
   -- a card has 16 addresses
   pub cycle_with_cards : answers card_has cycle opening ≡ cycle_answers 16

@@ -1,9 +1,11 @@
 -- The laws over whole uses, for every layout and every remembered set.
 use Rattle.std.specs.Prelude.{◌≡◌, ℕ, ◌+◌, ◌-◌, ◌*◌, ◌<◌, ◌≤◌, true, false, List, [], ◌∷◌, ◌++◌, length, take, Some, None, Option, slice_index_or, slice_get, sum_by, count_by, option_map, unwrap_or, Bool, nat_eq}
 use Rattle.std.specs.List.{range_with_len, AllByRecursion, IsDistinct}
+use Rattle.calls.specs.declared.answer.Refusal.TheVariants.{Full as full}
+use Rattle.calls.specs.declared.answer.Report.{Report}
 use Rattle.layout.specs.Meaning.{Meaning, Lawful}
 use Rattle.remembered.specs.Meaning.{Meaning as Remembers}
-use Rattle.model.specs.Calls.{Call, make, access, step, tally, full, refused, report, Report, Answer, Event, History, is_full, AtEach}
+use Rattle.model.specs.Calls.{Call, make, access, step, tally, refused, report, Answer, Event, History, is_full, AtEach}
 use Rattle.model.specs.Bodies.{Body, fresh, size, is_root}
 use Rattle.model.specs.Plain.{Graph, graph_of, plain}
 use Rattle.model.specs.Trains.{Trains, train_objects, words_in_use, cars_in_use, numbers, one_of, times, inside, capacity, car_count, car_words}

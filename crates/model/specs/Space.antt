@@ -1,9 +1,11 @@
 -- The space: roots, trains, the mark, and what the remembered set was told; and what each call does to it.
 use Rattle.std.specs.Prelude.{◌≡◌, ℕ, suc, ◌+◌, Bool, List, [], ◌∷◌, length, replicate, Some, None, Option, nat_le, slice_set, map, sum_by, is_some, not}
+use Rattle.calls.specs.declared.answer.Freed.TheVariants.{Idle as idle, Train as train, Car as car}
+use Rattle.calls.specs.declared.answer.Report.{Report}
 use Rattle.layout.specs.Meaning.{Meaning}
 use Rattle.remembered.specs.Meaning.{Row, forget, pairs_of}
 use Rattle.remembered.specs.Meaning.{Meaning as Remembers}
-use Rattle.model.specs.Calls.{Call, make, access, step, tally, usage, report, idle, train, car, Report, History, AtEach}
+use Rattle.model.specs.Calls.{Call, make, access, step, tally, usage, report, History, AtEach}
 use Rattle.model.specs.Bodies.{Body, Roots, fresh, size, with_ref, with_value, root_count, is_root, Effect, leave, hold, point, store, reply_of, Outcome, outcome, make_outcome}
 use Rattle.model.specs.Trains.{Obj, Car, Train, Trains, train_objects, objects, words_in_use, cars_in_use, car_numbers, numbers, lowest_free, place_at, arrival, inside, alter, capacity}
 use Rattle.model.specs.Claims.{Wish, claims, Taken, Claim}
