@@ -1,7 +1,6 @@
 // The text of a script: its lines, the words of a line, the call that a line asks for, and the line that answers it.
 #![tactic(auto)]
 
-<<<<<<< HEAD
 pub use calls::{
     Answer, Call, Freed, LineFault, PlayerFault, Position, Refusal, Report, Usage, WordFault,
 };
