@@ -67,7 +67,7 @@ reply a e = record { answer = a; effect = e }
 abbrev pub object_of : (ℕ → Option Body) → Option ℕ → Option (ℕ × Body)
 object_of find h = option_and_then (λ x. option_map (λ b. (x, b)) (find x)) h
 
--- a test that refuses with n where it fails
+-- a test that refuses with n where it fails; it takes the test's answer, since each of eleven refusals has a test of its own
 abbrev pub unless : Bool → Refusal → Reply → Reply
 unless ok n r = if ok then r else refuse n
 
@@ -75,7 +75,7 @@ abbrev pub on_found : Option (ℕ × Body) → (ℕ → Body → Reply) → Repl
 on_found None k = refuse empty
 on_found (Some p) k = k p.0 p.1
 
--- root numbers first, then whether the root holds an object
+-- root numbers first, then whether the root holds an object; which root numbers are tested is the call's affair
 abbrev pub on_object : Bool → Option (ℕ × Body) → (ℕ → Body → Reply) → Reply
 on_object roots-ok f k = unless roots-ok root (on_found f k)
 

@@ -16,6 +16,8 @@ pub data Access : Type 0 where
   words : (root buffer : ℕ) → Access
   same : (root other : ℕ) → Access
 
+-- the calls and answers are not those of crate `calls`: a use has `words` besides, which no script has, and the laws split a
+-- call in four
 pub data Call : Type 0 where
   make : (root kind refs words : ℕ) → Call
   access : Access → Call

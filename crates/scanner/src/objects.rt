@@ -16,7 +16,8 @@ pub(crate) struct Shape {
 }
 
 impl Shape {
-    /// Kind 0 is a record and kind 1 an array; no other shape is admitted.
+    /// Kind 0 is a record and kind 1 an array; no other shape is admitted. A kind goes no further than this, so it has no
+    /// type of its own.
     pub(crate) fn admitted(kind: u32, refs: u32, words: u32) -> Option<Shape> {
         let fits = match kind {
             0 => refs <= 15 && words <= 15 && (refs > 0 || words > 0),

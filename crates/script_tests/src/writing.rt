@@ -1,6 +1,7 @@
 // The line that stands for an answer or a fault, and what is left alone round it.
 use script::{
-    Answer, Freed, LineFault, PlayerFault, Position, Refusal, Report, Usage, write_answer, write_fault,
+    Answer, Freed, LineFault, PlayerFault, Position, Refusal, Report, Usage, write_answer,
+    write_fault,
 };
 use std::process::Abort;
 
