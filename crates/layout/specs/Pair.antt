@@ -53,15 +53,15 @@ module _ (A : Meaning) (C : Coding) (B : Meaning) (D : Coding) where
   own_first k r w e a = (grind (arith, nat_tests), grind (arith, nat_tests))
 
   own_second : (k r w : ℕ) → nat_lt k A.kinds ≡ false → (pair_meaning A C B D).admits k r w ≡ true
-      → (B.admits (k - A.kinds) r w ≡ true) × (D.code (k - A.kinds) r w < half_headers)
-  own_second k r w e a = (grind (arith, nat_tests), grind (arith, nat_tests))
+      → (k < most_kinds) × (B.admits (k - A.kinds) r w ≡ true) × (D.code (k - A.kinds) r w < half_headers)
+  own_second k r w e a = (grind (arith, nat_tests), grind (arith, nat_tests), grind (arith, nat_tests))
 
   pub pair_lawful : Lawful A → Coded A C → Lawful B → Lawful (pair_meaning A C B D)
   pair_lawful l c m = record {
     known = λ k r w a. grind (arith, nat_tests, c.few_kinds, m.known (k - A.kinds) r w);
     apart = λ k r w a. apart_either (nat_lt k A.kinds)
         (λ e. l.apart k r w (own_first k r w e a).0)
-        (λ e. m.apart (k - A.kinds) r w (own_second k r w e a).0);
+        (λ e. m.apart (k - A.kinds) r w (own_second k r w e a).1);
   }
 
   apart_half : Coded A C → Coded B D → (x : Half) → Apart
