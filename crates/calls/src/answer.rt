@@ -24,8 +24,11 @@ pub enum Refusal {
 /// What a step freed: nothing, the whole first train, or its first car.
 #[derive(Clone, Copy, PartialEq, Eq, Debug)]
 pub enum Freed {
+    /// Nothing: there was no train.
     Idle,
+    /// The first train, whole.
     Train,
+    /// The first car of the first train.
     Car,
 }
 
@@ -55,9 +58,13 @@ pub struct Usage {
 /// What a call answers.
 #[derive(Clone, Copy, PartialEq, Eq, Debug)]
 pub enum Answer {
+    /// Nothing was done.
     Refused(Refusal),
+    /// It was done, and there is nothing else to tell.
     Done,
+    /// The data word asked for.
     Value(u32),
+    /// Whether both roots hold the same.
     Same(bool),
     Tally(Usage),
     Step(Report),

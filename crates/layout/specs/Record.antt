@@ -2,7 +2,7 @@
 use Rattle.std.specs.Prelude.{◌≡◌, ℕ, ◌+◌, ◌*◌, ◌/◌, ◌%◌, ◌≤◌, true, ◌&&◌, ◌==◌, nat_le, refl}
 use Rattle.std.proofs.Common.{arith}
 use Rattle.std.proofs.lemmas.Bool.Decides.{nat_tests}
-use Rattle.layout.specs.declared.record.TheConstants.{MOST}
+use Rattle.layout.specs.declared.record.TheConstants.{MOST_OF_EACH}
 use Rattle.layout.specs.LowPart.{low_part, low_part-range, low_part-self}
 use Rattle.layout.specs.Meaning.{Meaning, Lawful}
 use Rattle.layout.specs.Coding.{Coding, Coded, refs_first}
@@ -10,7 +10,7 @@ use Rattle.layout.specs.Coding.{Coding, Coded, refs_first}
 abbrev pub record_meaning : Meaning
 record_meaning = record {
   kinds = 1;
-  admits = λ k r w. (k == 0) && (nat_le r MOST && (nat_le w MOST && nat_le 1 (r + w)));
+  admits = λ k r w. (k == 0) && (nat_le r MOST_OF_EACH && (nat_le w MOST_OF_EACH && nat_le 1 (r + w)));
   ref_count = λ k r w. r;
   word_count = λ k r w. w;
   ref_offset = λ k r w i. 1 + i;

@@ -40,7 +40,7 @@ impl Layout for Array {
         0
     }
 
-    // Only which run of words is meant stands here and below; the arithmetic is the run's.
+    // As in the other layout: a default in the trait would say that references come first in every one.
     fn reference_offset(header: u32, i: u32) -> Option<u32> {
         Run::behind_header(Self::references(header)).offset_of(i)
     }
@@ -50,6 +50,6 @@ impl Layout for Array {
     }
 
     fn reference_at(header: u32, offset: u32) -> Option<u32> {
-        Run::behind_header(Self::references(header)).word_at(offset)
+        Run::behind_header(Self::references(header)).index_at(offset)
     }
 }

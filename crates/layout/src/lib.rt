@@ -24,8 +24,8 @@ pub struct Shape {
 /// Which shapes of objects there are, and where the words of each stand.
 ///
 /// Every function takes any numbers: whatever a word of memory holds, it is the header of some
-/// object of 2 to 64 words, so that code above asks nothing of memory. So a header is a plain word:
-/// a type of its own would say no more.
+/// object of 2 to 64 words, so that code above asks nothing of memory.
+// A header is whatever a word of memory holds, so it stays the `u32` that is read.
 pub trait Layout {
     ghost meaning: { Meaning };
 

@@ -28,6 +28,7 @@ impl<A: Layout, B: Layout> Layout for Pair<A, B> {
     }
 
     fn header(shape: Shape) -> Option<u32> {
+        // Three cases, so a `match`. The number of kinds is a word, so the last kind is one less.
         let half = match shape.kind.checked_sub(A::kinds()) {
             None => Half::First(A::header(shape)?),
             Some(_) if shape.kind == u32::MAX => return None,
@@ -36,27 +37,29 @@ impl<A: Layout, B: Layout> Layout for Pair<A, B> {
         half.header()
     }
 
+    // Each function from here on puts one question to the half that the header belongs to. The halves'
+    // own functions cannot be passed by name yet, only closures that call them.
     fn references(header: u32) -> u32 {
-        Half::from(header).ask(|own| A::references(own), |own| B::references(own))
+        Half::from(header).with_own(|own| A::references(own), |own| B::references(own))
     }
 
     fn data_words(header: u32) -> u32 {
-        Half::from(header).ask(|own| A::data_words(own), |own| B::data_words(own))
+        Half::from(header).with_own(|own| A::data_words(own), |own| B::data_words(own))
     }
 
     fn reference_offset(header: u32, i: u32) -> Option<u32> {
-        Half::from(header).ask(
+        Half::from(header).with_own(
             |own| A::reference_offset(own, i),
             |own| B::reference_offset(own, i),
         )
     }
 
     fn word_offset(header: u32, j: u32) -> Option<u32> {
-        Half::from(header).ask(|own| A::word_offset(own, j), |own| B::word_offset(own, j))
+        Half::from(header).with_own(|own| A::word_offset(own, j), |own| B::word_offset(own, j))
     }
 
     fn reference_at(header: u32, offset: u32) -> Option<u32> {
-        Half::from(header).ask(
+        Half::from(header).with_own(
             |own| A::reference_at(own, offset),
             |own| B::reference_at(own, offset),
         )
@@ -79,6 +82,7 @@ impl From<u32> for Half {
     ghost from_gives = { λ header half. half ≡ half_of header };
 
     fn from(header: u32) -> Self {
+        // Here alone the lowest bit is read.
         match header % 2 {
             0 => Half::First(header / 2),
             _ => Half::Second(header / 2),
@@ -90,7 +94,7 @@ impl Half {
     ghost use Rattle.layout.specs.Halves.{own_header, header_of, OfHalf};
 
     /// What the half's own layout says of its header.
-    fn ask<R, F: FnOnce(u32) -> R + Copy, G: FnOnce(u32) -> R + Copy>(
+    fn with_own<R, F: FnOnce(u32) -> R + Copy, G: FnOnce(u32) -> R + Copy>(
         self,
         first: F,
         second: G,

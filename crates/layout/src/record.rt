@@ -8,7 +8,7 @@ use crate::{Layout, Shape};
 
 /// The most references that a record has, and the most data words: each number has four bits of
 /// the header.
-pub const MOST: u32 = 15;
+pub const MOST_OF_EACH: u32 = 15;
 
 /// The layout of records.
 #[derive(Clone, Copy)]
@@ -30,7 +30,7 @@ impl Layout for Record {
     fn header(shape: Shape) -> Option<u32> {
         match (shape.kind, shape.refs, shape.words) {
             (0, 0, 0) => None,
-            (0, refs @ 0..=MOST, words @ 0..=MOST) => Some(refs + 16 * words),
+            (0, refs @ 0..=MOST_OF_EACH, words @ 0..=MOST_OF_EACH) => Some(refs + 16 * words),
             _ => None,
         }
     }
@@ -43,7 +43,7 @@ impl Layout for Record {
         shape(header) / 16
     }
 
-    // Only which run of words is meant stands here and below; the arithmetic is the run's.
+    // As in the other layout: a default in the trait would say that references come first in every one.
     fn reference_offset(header: u32, i: u32) -> Option<u32> {
         Run::behind_header(Self::references(header)).offset_of(i)
     }
@@ -57,7 +57,7 @@ impl Layout for Record {
     }
 
     fn reference_at(header: u32, offset: u32) -> Option<u32> {
-        Run::behind_header(Self::references(header)).word_at(offset)
+        Run::behind_header(Self::references(header)).index_at(offset)
     }
 }
 

@@ -29,7 +29,7 @@ impl Run {
     }
 
     /// Which word stands at that offset, or none if none does.
-    pub(crate) fn word_at(self, offset: u32) -> Option<u32>
+    pub(crate) fn index_at(self, offset: u32) -> Option<u32>
         ensures { SomeIff result
             ((self.first ≤ offset) × (offset < self.first + self.count))
             (offset - self.first) }

@@ -8,7 +8,8 @@ use Rattle.layout.specs.Meaning.{Meaning, Lawful}
 use Rattle.remembered.specs.Meaning.{Row, forget}
 use Rattle.remembered.specs.Meaning.{Meaning as Remembers, Lawful as RemembersLawfully}
 use Rattle.model.specs.Calls.{Call, make, access, step, tally, History}
-use Rattle.model.specs.Bodies.{Shape, Body, fresh, size, with_ref, with_value, is_root, Effect, leave, hold, point, store, reply_of}
+use Rattle.layout.specs.declared.Shape.{Shape}
+use Rattle.model.specs.Bodies.{Body, fresh, size, with_ref, with_value, is_root, Effect, leave, hold, point, store, reply_of}
 use Rattle.model.specs.Trains.{Obj, Car, Train, Trains, train_objects, objects, words_of, words_in_use, obj_size, times, among, car_numbers, numbers, one_of, lowest_free, place_at, arrival, inside, alter, car_words}
 use Rattle.model.specs.Claims.{Wish, Claim}
 use Rattle.model.specs.Step.{first_to, outside, wishes, claimed, place_all}

@@ -6,7 +6,8 @@ use Rattle.std.specs.Prelude.{map}
 use Rattle.layout.specs.Meaning.{Meaning}
 use Rattle.remembered.specs.Meaning.{Row}
 use Rattle.remembered.specs.Meaning.{Meaning as Remembers}
-use Rattle.model.specs.Bodies.{Shape, Body, size, with_ref, with_value}
+use Rattle.layout.specs.declared.Shape.{Shape}
+use Rattle.model.specs.Bodies.{Body, size, with_ref, with_value}
 use Rattle.model.specs.Trains.{Obj, Car, Train, train_objects, times, among, car_numbers, one_of, with_object, opened, alter_object, alter_train, car_words}
 use Rattle.model.specs.Notes.{Seat, train_seat, Slot, ref_slots, object_slots, train_slots}
 use Rattle.model.proofs.Alls.{all_left, all_right, all_++, all_with}

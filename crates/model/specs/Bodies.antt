@@ -4,12 +4,8 @@ use Rattle.std.specs.Option.{option_eq}
 use Rattle.calls.specs.declared.answer.Refusal.{Refusal}
 use Rattle.calls.specs.declared.answer.Refusal.TheVariants.{Root as root, Empty as empty, Missing as missing, Shape as shape, Full as full, Range as range, Buffer as buffer}
 use Rattle.layout.specs.Meaning.{Meaning}
+use Rattle.layout.specs.declared.Shape.{Shape}
 use Rattle.model.specs.Calls.{Access, link, follow, drop, put, lift, get, words, same, Answer, refused, done, value, wrote, alike}
-
-pub record Shape : Type 0 where
-  pub kind : ℕ
-  pub refs : ℕ
-  pub words : ℕ
 
 -- a reference holds an identity or none
 pub record Body : Type 0 where
@@ -67,7 +63,7 @@ reply a e = record { answer = a; effect = e }
 abbrev pub object_of : (ℕ → Option Body) → Option ℕ → Option (ℕ × Body)
 object_of find h = option_and_then (λ x. option_map (λ b. (x, b)) (find x)) h
 
--- a test that refuses with n where it fails; it takes the test's answer, since each of eleven refusals has a test of its own
+-- a test that refuses with n where it fails; it takes the test's answer, since each refusal has a test of its own
 abbrev pub unless : Bool → Refusal → Reply → Reply
 unless ok n r = if ok then r else refuse n
 

@@ -2,7 +2,8 @@
 use Rattle.std.specs.Prelude.{ℕ, ◌+◌, ◌*◌, Bool, false, ◌&&◌, ◌||◌, List, [], ◌∷◌, ◌++◌, length, Some, None, Option, ◌==◌, nat_lt, flat_map, filter, reverse, if◌then◌else◌}
 use Rattle.layout.specs.Meaning.{Meaning}
 use Rattle.remembered.specs.Meaning.{Told, note, Row}
-use Rattle.model.specs.Bodies.{Shape, size}
+use Rattle.layout.specs.declared.Shape.{Shape}
+use Rattle.model.specs.Bodies.{size}
 use Rattle.model.specs.Trains.{Obj, Train, Trains, among, car_words}
 
 -- a car's place in the row of all cars, trains one after another, and its number

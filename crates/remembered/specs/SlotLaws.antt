@@ -1,6 +1,7 @@
 -- Laws of the slot set.
 use Rattle.std.specs.Prelude.{◌≡◌, ℕ, zero, suc, ◌+◌, ◌*◌, ◌<◌, ◌≤◌, true, false, cond, not, ◌&&◌, ◌||◌, List, [], ◌∷◌, length, replicate, ◌==◌, ◌≢◌, nat_lt, slice_index_or, slice_set, refl}
 use Rattle.std.proofs.Common.{sym, ap, subst, ◌∙◌, ⊎_elim, arith}
+use Rattle.std.proofs.Math.Seq.{map-set_same}
 use Rattle.std.proofs.lemmas.Grind.{common_steps}
 use Rattle.std.proofs.lemmas.List.Folds.{sum_by-replicate}
 use Rattle.std.proofs.lemmas.List.Sums.{sum_by-cons}
@@ -146,6 +147,7 @@ one_more : (cars : List Car) (c a : ℕ) (car : Car) → length cars ≡ 64 → 
 one_more cars c a car len hc ha was more over = record {
   kept_more = kept_more;
   over_same = over_same;
+  flags_same = map-set_same (λ w. w.overflown) cars c car _ over;
   used_more = omega (arith, places-set cars c car (omega arith), kept_count_more (car_at cars c).kept a car.kept ha was more);
 }
   where
@@ -166,6 +168,7 @@ one_more cars c a car len hc ha was more over = record {
 one_over : (cars : List Car) (c : ℕ) (car : Car) → length cars ≡ 64 → c < 64 → car.kept ≡ (car_at cars c).kept → car.overflown ≡ true → OverflowsCar cars c (slice_set cars c car)
 one_over cars c car len hc same over = record {
   kept_same = kept_same;
+  rows_same = map-set_same (λ w. w.kept) cars c car _ same;
   over_more = over_more;
   used_same = omega (arith, places-set cars c car (omega arith), ap kept_count same);
 }

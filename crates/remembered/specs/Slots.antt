@@ -1,5 +1,5 @@
 -- What the slot set does.
-use Rattle.std.specs.Prelude.{◌≡◌, ℕ, ◌+◌, ◌-◌, ◌<◌, ◌≤◌, Bool, true, false, if◌then◌else◌, not, ◌&&◌, ◌||◌, List, [], ◌∷◌, length, ◌==◌, nat_le, nat_lt}
+use Rattle.std.specs.Prelude.{◌≡◌, ℕ, ◌+◌, ◌-◌, ◌<◌, ◌≤◌, Bool, true, false, if◌then◌else◌, not, ◌&&◌, ◌||◌, List, [], ◌∷◌, length, map, ◌==◌, nat_le, nat_lt}
 use Rattle.remembered.specs.declared.Pair.{Pair}
 use Rattle.remembered.specs.BitRow.{bit_in}
 use Rattle.remembered.specs.Laws.{in_range, new_in}
@@ -53,15 +53,17 @@ slot_pairs cars c a = in_range c a && (is_over cars c || bit_in (car_at cars c).
 unfoldable pub kept_of : List Car → ℕ → ℕ
 kept_of cars c = count (kept cars c) 8192
 
--- one pair more is kept, in one place more
+-- one pair more is kept, in one place more, and no flag alters
 pub record KeepsPair (old : List Car) (c a : ℕ) (new : List Car) : Type 0 where
   pub kept_more : (d b : ℕ) → kept new d b ≡ (kept old d b || (d == c && b == a))
   pub over_same : (d : ℕ) → is_over new d ≡ is_over old d
+  pub flags_same : map (λ car. car.overflown) new ≡ map (λ car. car.overflown) old
   pub used_more : places new ≡ places old + 1
 
--- one car more is overflown
+-- one car more is overflown, and no row alters
 pub record OverflowsCar (old : List Car) (c : ℕ) (new : List Car) : Type 0 where
   pub kept_same : (d b : ℕ) → kept new d b ≡ kept old d b
+  pub rows_same : map (λ car. car.kept) new ≡ map (λ car. car.kept) old
   pub over_more : (d : ℕ) → is_over new d ≡ (is_over old d || d == c)
   pub used_same : places new ≡ places old
 

@@ -67,7 +67,8 @@ impl<const W: usize> BitRow<W> {
         ensures least { Least (bit_in self.now) from result }
         ensures within { IfSome result (λ k. k < 64 * W) }
     {
-        // The place of the word is part of the answer, so the loop counts places.
+        // A loop over places, since the place is part of the answer: `enumerate` and `skip` would give the same numbers in
+        // more words.
         for i in from as usize / 64..W {
             let first = 64 * i as u32;
             if let Some(k) = next_in_word(self.words[i], from.saturating_sub(first)) {

@@ -7,7 +7,7 @@ ghost use Rattle.remembered.specs.CardLaws.{card_lawful, card_tells, card_forget
 ghost use Rattle.std.proofs.Common.{rules};
 
 use crate::bit_row::BitRow;
-use crate::{CARS, RememberedSet, is_in_range};
+use crate::{CARS, RememberedSet, is_car, is_in_range};
 
 // How many addresses a card has.
 const CARD: u32 = 16;
@@ -78,7 +78,7 @@ impl RememberedSet for CardSet {
     }
 
     fn forget(&mut self, car: u32) {
-        if (car as usize) < CARS {
+        if is_car(car) {
             self.cars[car as usize] = BitRow::none();
         }
     }

@@ -2,7 +2,7 @@
 
 #![tactic(auto)]
 
-ghost use Rattle.std.specs.Prelude.{◌≡◌, ℕ, ◌<◌, Bool, true, false, [], ◌∷◌};
+ghost use Rattle.std.specs.Prelude.{◌≡◌, ℕ, ◌<◌, Bool, true, false, [], ◌∷◌, nat_lt};
 ghost use Rattle.remembered.specs.Laws.{in_range, Keeps, KeepsOthers, Least};
 ghost use Rattle.remembered.specs.Meaning.{Told, Row, Meaning, Lawful};
 ghost use Rattle.remembered.specs.Meaning.Told.{note as noting, forget as forgetting};
@@ -21,17 +21,25 @@ pub struct Pair {
 }
 
 /// How many cars there are.
-pub const CARS: usize = 64;
+pub(crate) const CARS: usize = 64;
 
 /// How many addresses there are.
-pub const ADDRESSES: u32 = 8192;
+pub(crate) const ADDRESSES: u32 = 8192;
 
-// Whether a car and an address can be paired. Both are `u32`, as the callers have them; `usize` has no `From<u32>`, so
-// where one is an index it is widened by `as`, here and in the sets.
+// Whether a car and an address can be paired. Both are handed on as they come in, and a `Pair` is made only where one is
+// held. They are `u32`; `usize` has no `From<u32>`, so an index is made of them by `as`, here and in the sets, and a number
+// that is known to be small goes back by `as`.
 fn is_in_range(car: u32, address: u32) -> bool
     ensures { result ≡ in_range car address }
 {
-    (car as usize) < CARS && address < ADDRESSES
+    is_car(car) && address < ADDRESSES
+}
+
+// Whether there is a car of that number.
+fn is_car(car: u32) -> bool
+    ensures { result ≡ nat_lt car 64 }
+{
+    (car as usize) < CARS
 }
 
 /// A set of pairs of a car below 64 and an address below 8,192. Code over any set is right by what the set

@@ -9,7 +9,7 @@ ghost use Rattle.remembered.specs.SlotLaws.{slot_keeps, slot_gains, slot_others,
 ghost use Rattle.std.proofs.Common.{rules};
 
 use crate::bit_row::BitRow;
-use crate::{CARS, RememberedSet, is_in_range};
+use crate::{CARS, RememberedSet, is_car, is_in_range};
 use std::marker::Model;
 
 // How many words of 64 bits hold a bit for each address.
@@ -43,8 +43,7 @@ impl Model for CarPairs {
     ghost inverse_ok = { λ p h i. record { kept = p.kept; overflown = p.overflown; count = sym h i } };
 }
 
-// An address or a car that these functions and the set's own take is in range by `requires`: `is_in_range` asks once, where
-// a call comes in.
+// An address that these functions take is in range by `requires`: the set has asked, where a call came in.
 impl CarPairs {
     // No pair is kept, and the car is not overflown.
     fn none() -> CarPairs
@@ -146,7 +145,7 @@ impl SlotSet {
     pub fn is_overflown(&self, car: u32) -> bool
         ensures { result ≡ is_over self.now car }
     {
-        (car as usize) < CARS && self.cars[car as usize].is_overflown()
+        is_car(car) && self.cars[car as usize].is_overflown()
     }
 
     // Whether the pair could be in the set and is not.
@@ -236,7 +235,7 @@ impl RememberedSet for SlotSet {
     }
 
     fn forget(&mut self, car: u32) {
-        if (car as usize) < CARS {
+        if is_car(car) {
             self.free(car);
         }
     }

@@ -11,6 +11,7 @@ pub fn pairs<R: RememberedSet>(rset: &R, car: u32) -> u32
 {
     let mut n: u32 = 0;
     let mut from: u32 = 0;
+    // Each answer is where the next question begins, so a loop reads plainer than a chain of `successors`.
     while let Some(address) = rset.next(car, from) {
         n += 1;
         from = address + 1;

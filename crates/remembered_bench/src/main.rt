@@ -20,15 +20,22 @@ struct Run {
     nanos: u128,
 }
 
+// Does the work and takes its time.
+fn measure<F: FnOnce() -> u64>(rt: &HostRuntime, work: F) -> anyhow::Result<Run>
+    requires { F.IsAlwaysCallable work }
+{
+    let start = Instant::now(rt)?;
+    let pairs = work();
+    let nanos = start.elapsed(rt)?.as_nanos();
+    Ok(Run { pairs, nanos })
+}
+
 fn run_set<R: RememberedSet + Drop>(
     rt: &HostRuntime,
     mut rset: R,
     rounds: u32,
 ) -> anyhow::Result<Run> {
-    let start = Instant::now(rt)?;
-    let pairs = work::with_set(&mut rset, rounds);
-    let nanos = start.elapsed(rt)?.as_nanos();
-    Ok(Run { pairs, nanos })
+    measure(rt, || work::with_set(&mut rset, rounds))
 }
 
 // No pair is in the table. A function of its own, since a check of `run_plain` would go through all the flags.
@@ -38,10 +45,7 @@ fn empty_table() -> [bool; 524288] {
 
 fn run_plain(rt: &HostRuntime, rounds: u32) -> anyhow::Result<Run> {
     let mut table = empty_table();
-    let start = Instant::now(rt)?;
-    let pairs = plain::with_table(&mut table, rounds);
-    let nanos = start.elapsed(rt)?.as_nanos();
-    Ok(Run { pairs, nanos })
+    measure(rt, || plain::with_table(&mut table, rounds))
 }
 
 // How many hundredths of one time another is.

@@ -1,6 +1,7 @@
 //! The same work on a table with a flag for each car and address.
 //!
-//! `note_drawn` and `count_and_forget` repeat those of `work` step by step, since the two are compared by their times.
+//! The three functions repeat those of `work` step by step, since the two are compared by their times. One function for
+//! both would need a trait for a table of flags, for this program alone.
 
 use crate::work::{address_of, car_of, draw};
 

@@ -99,7 +99,7 @@ impl Space {
         index: usize,
         holds: ObjectId,
     ) -> Result<(), Failure> {
-        // A `match`, since the one arm can fail and a chain would have to turn its result round.
+        // A `match`, since the one arm can fail: a chain would need `transpose`.
         match self.whereabouts(owner)? {
             Some((place, car_place)) => self.note_slot(Slot {
                 owner,

@@ -1,4 +1,5 @@
-// What can stop the player itself.
+// Failures of the player, as against refusals of a call.
+use script::NoRoom;
 use std::alloc::AllocError;
 use thiserror::Error;
 
@@ -16,6 +17,6 @@ pub enum Failure {
     #[error("an object is missing")]
     NoObject,
     /// Fewer than 64 bytes were left for an output line. The output has 64 for each, so this is ruled out too.
-    #[error("no room for a line")]
-    NoRoom,
+    #[error(transparent)]
+    NoRoom(#[from] NoRoom),
 }

@@ -10,7 +10,7 @@ use thiserror::Error;
 #[derive(Clone, Copy, Debug, Error)]
 pub enum PlayError {
     /// The script is refused as a whole.
-    #[error(transparent)]
+    #[error("refused 11: {0}")]
     TooLong(#[from] TooLong),
     /// The player could not go on.
     #[error("stopped: {0}")]
@@ -23,7 +23,7 @@ pub fn play(heap: Global, script: &[u8], choice: Choice) -> Result<Vec<u8>, Play
     Ok(play_lines(heap, script, lines, choice)?)
 }
 
-// The output has room for every line.
+// The output of a script of so many lines, with room for each.
 fn play_lines(
     heap: Global,
     script: &[u8],
@@ -37,10 +37,10 @@ fn play_lines(
         match read(text, number) {
             Ok(call) => {
                 let answer = space.answer(call)?;
-                written = write_answer(&mut output, written, &answer).ok_or(Failure::NoRoom)?;
+                written = write_answer(&mut output, written, &answer)?;
             }
             Err(fault) => {
-                written = write_fault(&mut output, written, &fault).ok_or(Failure::NoRoom)?;
+                written = write_fault(&mut output, written, &fault)?;
                 break;
             }
         }

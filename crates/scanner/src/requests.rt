@@ -59,16 +59,16 @@ impl Space {
         Ok(requests)
     }
 
-    // What the slots that `counts` picks ask for objects of the first train.
+    // What the slots that `picks` lets through ask for objects of the first train.
     fn slot_requests<F: Fn(&Slot) -> bool>(
         &self,
         slots: &[Slot],
-        counts: F,
+        picks: F,
     ) -> Result<Vec<MoveRequest>, Failure>
-        requires { F.IsAlwaysCallable counts }
+        requires { F.IsAlwaysCallable picks }
     {
         let mut requests = Vec::new(self.heap);
-        for slot in slots.iter().filter(|slot| counts(slot)) {
+        for slot in slots.iter().filter(|slot| picks(slot)) {
             if self.in_first_train(slot.holds)? {
                 requests.push(slot.request())?;
             }

@@ -57,7 +57,7 @@ impl Space {
         self.objects.get(id.0).ok_or(Failure::NoObject)
     }
 
-    /// The same, to change: a twin by its borrow alone.
+    /// The object of a number, to change; it stands to `object` as `get_mut` to `get`.
     pub(crate) fn object_mut(&mut self, id: ObjectId) -> Result<&mut Object, Failure> {
         self.objects.get_mut(id.0).ok_or(Failure::NoObject)
     }

@@ -81,7 +81,7 @@ impl Space {
     }
 
     fn mark_lies_in(&self, car: usize) -> Result<bool, Failure> {
-        // A `match`, since the one arm can fail and a chain would have to turn its result round.
+        // A `match`, since the one arm can fail: a chain would need `transpose`.
         match self.mark {
             Some(mark) => Ok(self.object(mark.object)?.lies_in(car)),
             None => Ok(false),

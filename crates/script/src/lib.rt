@@ -5,4 +5,4 @@ pub use calls::{
     Answer, Call, Freed, LineFault, PlayerFault, Position, Refusal, Report, Usage, WordFault,
 };
 pub use script_reader::{Line, Lines, TooLong, line_at, lines_within, read};
-pub use script_writer::{LINE_ROOM, write_answer, write_fault};
+pub use script_writer::{LINE_ROOM, NoRoom, write_answer, write_fault};

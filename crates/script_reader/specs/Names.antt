@@ -2,7 +2,7 @@
 use Rattle.std.specs.Prelude.{ℕ, cond, List, Some, None, codes, Option}
 use Rattle.std.specs.Str.{bytes_eq}
 use Rattle.script_reader.specs.declared.names.Name.{Name}
-use Rattle.script_reader.specs.declared.names.NamesNoCall.{NamesNoCall}
+use Rattle.script_reader.specs.declared.names.UnknownName.{UnknownName}
 use Rattle.script_reader.specs.declared.names.Name.TheVariants.{Make, Link, Follow, Drop, Put, Lift, Get, Same, Step, Tally}
 
 -- the call that a word names
@@ -20,8 +20,8 @@ called w =
     (cond (bytes_eq w (codes "tally")) (Some Tally) None)))))))))
 
 -- why a word that names no call is no name
-abbrev pub names_no_call : NamesNoCall
-names_no_call = record {}
+abbrev pub unknown_name : UnknownName
+unknown_name = record {}
 
 -- how many numbers stand behind a call's name
 abbrev pub count_of : Name → ℕ

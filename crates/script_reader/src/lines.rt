@@ -27,7 +27,7 @@ pub struct Line<'a> {
 
 /// A script has more than `MOST_BYTES` bytes or `MOST_LINES` lines.
 #[derive(Clone, Copy, PartialEq, Eq, Debug, Error)]
-#[error("refused 11: the script has more than 32,768 bytes or 512 lines")]
+#[error("the script has more than 32,768 bytes or 512 lines")]
 pub struct TooLong;
 
 // The first line, and what stands behind the byte that ends it.
@@ -76,7 +76,7 @@ impl<'a> Iterator for Lines<'a> {
     }
 }
 
-/// How many lines a script has.
+/// How many lines a script has, or an error if it is too long to be played.
 pub fn lines_within(script: &[u8]) -> Result<usize, TooLong>
     ensures { result_ok result ≡ lines_within script.now }
 {

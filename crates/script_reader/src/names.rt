@@ -1,9 +1,9 @@
 // The calls' names, and how many numbers stand behind each.
 ghost use Rattle.std.specs.Prelude.{◌≡◌};
 ghost use Rattle.std.specs.Option.{ok_or};
-ghost use Rattle.script_reader.specs.Names.{called, count_of, names_no_call};
+ghost use Rattle.script_reader.specs.Names.{called, count_of, unknown_name};
 
-/// What a line asks for, by its first word.
+/// What a line asks for, by its first word: `make`, `link` and so on.
 #[derive(Clone, Copy, PartialEq, Eq, Debug)]
 pub enum Name {
     Make,
@@ -20,15 +20,15 @@ pub enum Name {
 
 /// The word is the name of no call.
 #[derive(Clone, Copy, PartialEq, Eq, Debug)]
-pub struct NamesNoCall;
+pub struct UnknownName;
 
 impl<'a> TryFrom<&'a [u8]> for Name {
-    type Error = NamesNoCall;
+    type Error = UnknownName;
 
-    ghost try_from_gives = { λ text named. named ≡ ok_or (called text.now) names_no_call };
+    ghost try_from_gives = { λ text named. named ≡ ok_or (called text.now) unknown_name };
 
     #[tactic(auto, using(crate::proofs::Spelling::called_follow))]
-    fn try_from(text: &'a [u8]) -> Result<Name, NamesNoCall> {
+    fn try_from(text: &'a [u8]) -> Result<Name, UnknownName> {
         match text {
             b"make" => Ok(Name::Make),
             b"link" => Ok(Name::Link),
@@ -40,7 +40,7 @@ impl<'a> TryFrom<&'a [u8]> for Name {
             b"same" => Ok(Name::Same),
             b"step" => Ok(Name::Step),
             b"tally" => Ok(Name::Tally),
-            _ => Err(NamesNoCall),
+            _ => Err(UnknownName),
         }
     }
 }

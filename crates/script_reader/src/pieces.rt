@@ -13,7 +13,7 @@ fn position_of(bytes: &[u8], stop: u8) -> Option<usize>
 pub(crate) fn cut_at(bytes: &[u8], stop: u8) -> (&[u8], Option<&[u8]>)
     ensures { CutsAt stop bytes.now result.0.now result.1 }
 {
-    // A `match`, since each arm makes both parts.
+    // `map_or` would put the longer arm into a closure.
     match position_of(bytes, stop) {
         Some(end) => (&bytes[..end], Some(&bytes[end + 1..])),
         None => (bytes, None),

@@ -14,14 +14,14 @@ use calls::faults::{LineFault, PlayerFault, Position, WordFault};
 #[derive(Clone, Copy)]
 struct NumberedLine<'a> {
     text: &'a [u8],
-    number: u32,
+    line_number: u32,
 }
 
 impl<'a> NumberedLine<'a> {
     fn at(self, place: usize) -> Position
-        ensures { result ≡ position_at self.entry.number place }
+        ensures { result ≡ position_at self.entry.line_number place }
     {
-        let line = self.number;
+        let line = self.line_number;
         Position { line, place }
     }
 
@@ -37,18 +37,19 @@ impl<'a> NumberedLine<'a> {
     }
 
     fn name(self) -> Result<Name, LineFault>
-        ensures { result ≡ name_of self.entry.number self.entry.text.now }
+        ensures { result ≡ name_of self.entry.line_number self.entry.text.now }
     {
+        // `or`, since with `map_err` the proof stays open.
         Name::try_from(self.word(0).text).or(Err(LineFault::Words(self.at(0))))
     }
 
     // Whether just `count` words stand behind the first.
-    fn exactly(self, count: usize) -> Result<(), LineFault>
+    fn check_count(self, count: usize) -> Result<(), LineFault>
         requires { count ≤ 4 }
-        ensures { result ≡ counted self.entry.number self.entry.text.now count }
+        ensures { result ≡ counted self.entry.line_number self.entry.text.now count }
     {
         nth_word(self.text, count).ok_or(LineFault::Words(self.at(self.text.len())))?;
-        // A `match`, since it is the word that is there which makes the fault.
+        // The word that is there makes the fault, so `ok_or` does not fit.
         match nth_word(self.text, count + 1) {
             None => Ok(()),
             Some(surplus) => Err(LineFault::Words(self.at(surplus.place()))),
@@ -56,8 +57,8 @@ impl<'a> NumberedLine<'a> {
     }
 
     // Word `index` as a number.
-    fn number<T: Numeral>(self, index: usize) -> Result<T, WordFault>
-        ensures { result ≡ number_at T.written self.entry.number self.entry.text.now index }
+    fn number_at<T: Numeral>(self, index: usize) -> Result<T, WordFault>
+        ensures { result ≡ number_at T.written self.entry.line_number self.entry.text.now index }
     {
         let word = self.word(index);
         let at = self.at(word.place);
@@ -65,46 +66,46 @@ impl<'a> NumberedLine<'a> {
     }
 
     // The call with its numbers.
-    fn numbers_of(self, name: Name) -> Result<Call, WordFault>
-        ensures { result ≡ numbers_of name self.entry.number self.entry.text.now }
+    fn call(self, name: Name) -> Result<Call, WordFault>
+        ensures { result ≡ numbers_of name self.entry.line_number self.entry.text.now }
     {
         Ok(match name {
             Name::Make => Call::Make {
-                root: self.number(1)?,
-                kind: self.number(2)?,
-                refs: self.number(3)?,
-                words: self.number(4)?,
+                root: self.number_at(1)?,
+                kind: self.number_at(2)?,
+                refs: self.number_at(3)?,
+                words: self.number_at(4)?,
             },
             Name::Link => Call::Link {
-                root: self.number(1)?,
-                slot: self.number(2)?,
-                from: self.number(3)?,
+                root: self.number_at(1)?,
+                slot: self.number_at(2)?,
+                from: self.number_at(3)?,
             },
             Name::Follow => Call::Follow {
-                root: self.number(1)?,
-                from: self.number(2)?,
-                slot: self.number(3)?,
+                root: self.number_at(1)?,
+                from: self.number_at(2)?,
+                slot: self.number_at(3)?,
             },
             Name::Drop => Call::Drop {
-                root: self.number(1)?,
+                root: self.number_at(1)?,
             },
             Name::Put => Call::Put {
-                root: self.number(1)?,
-                word: self.number(2)?,
-                value: self.number(3)?,
+                root: self.number_at(1)?,
+                word: self.number_at(2)?,
+                value: self.number_at(3)?,
             },
             Name::Lift => Call::Lift {
-                root: self.number(1)?,
-                word: self.number(2)?,
-                by: self.number(3)?,
+                root: self.number_at(1)?,
+                word: self.number_at(2)?,
+                by: self.number_at(3)?,
             },
             Name::Get => Call::Get {
-                root: self.number(1)?,
-                word: self.number(2)?,
+                root: self.number_at(1)?,
+                word: self.number_at(2)?,
             },
             Name::Same => Call::Same {
-                root: self.number(1)?,
-                other: self.number(2)?,
+                root: self.number_at(1)?,
+                other: self.number_at(2)?,
             },
             Name::Step => Call::Step,
             Name::Tally => Call::Tally,
@@ -116,10 +117,13 @@ impl<'a> NumberedLine<'a> {
 pub fn read_line(line: &[u8], number: u32) -> Result<Call, LineFault>
     ensures { result ≡ line_of number line.now }
 {
-    let line = NumberedLine { text: line, number };
+    let line = NumberedLine {
+        text: line,
+        line_number: number,
+    };
     let name = line.name()?;
-    line.exactly(name.numbers())?;
-    Ok(line.numbers_of(name)?)
+    line.check_count(name.numbers())?;
+    Ok(line.call(name)?)
 }
 
 /// What the player is told: the call, or the reader's fault.

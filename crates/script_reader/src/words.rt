@@ -12,12 +12,14 @@ const SPACE: u8 = b' ';
 /// A piece of a line between two spaces.
 #[derive(Clone, Copy, PartialEq, Eq, Debug)]
 pub struct Word<'a> {
+    /// Its bytes; there may be none.
     pub text: &'a [u8],
     /// Where it begins in its line, in bytes from 0.
     pub place: usize,
 }
 
-/// A word as the reader hands it on: the first of a line is a call's name, the others are its numbers.
+/// A word as the reader hands it on: the first of a line is a call's name, the others are its numbers. Two variants of the
+/// same, so that a caller can match on what the word is.
 #[derive(Clone, Copy, PartialEq, Eq, Debug)]
 pub enum Token<'a> {
     Name(Word<'a>),

@@ -1,6 +1,6 @@
 // The line that stands for an answer or a fault, and what is left alone round it.
 use script::{
-    Answer, Freed, LineFault, PlayerFault, Position, Refusal, Report, Usage, write_answer,
+    Answer, Freed, LineFault, NoRoom, PlayerFault, Position, Refusal, Report, Usage, write_answer,
     write_fault,
 };
 use std::process::Abort;
@@ -8,8 +8,8 @@ use std::process::Abort;
 const START: usize = 3;
 
 // The line stands from the fourth byte on, and every other byte is a 7 still.
-fn stands(rt: &impl Abort, out: &[u8; 80], end: Option<usize>, text: &[u8]) {
-    assert_eq!(rt; end, Some(START + text.len()));
+fn stands(rt: &impl Abort, out: &[u8; 80], end: Result<usize, NoRoom>, text: &[u8]) {
+    assert_eq!(rt; end, Ok(START + text.len()));
     for (i, byte) in out.iter().enumerate() {
         if i < START || i - START >= text.len() {
             assert_eq!(rt; *byte, 7);
@@ -94,8 +94,8 @@ fn a_fault(rt: HostRuntime) {
 #[test]
 fn a_line_wants_64_bytes(rt: HostRuntime) {
     let mut out = [7u8; 66];
-    assert_eq!(rt; write_answer(&mut out, START, &Answer::Done), None);
-    assert_eq!(rt; write_answer(&mut out, 67, &Answer::Done), None);
+    assert_eq!(rt; write_answer(&mut out, START, &Answer::Done), Err(NoRoom));
+    assert_eq!(rt; write_answer(&mut out, 67, &Answer::Done), Err(NoRoom));
     assert!(rt; out == [7u8; 66]);
-    assert_eq!(rt; write_answer(&mut out, 2, &Answer::Done), Some(4));
+    assert_eq!(rt; write_answer(&mut out, 2, &Answer::Done), Ok(4));
 }

@@ -1,10 +1,11 @@
 // The output line of an answer and of a fault.
 ghost use Rattle.std.specs.Prelude.{◌≡◌, ◌<◌, ◌≤◌, [], ◌∷◌, ◌++◌, length};
+ghost use Rattle.std.specs.Result.{result_ok};
 ghost use Rattle.script_writer.specs.Writer.{freed_word, answer_line, fault_line, WritesLine};
 ghost use Rattle.script_writer.specs.declared.line.TheConstants.{LINE_ROOM};
 
 pub use crate::line::LINE_ROOM;
-use crate::line::Line;
+use crate::line::{Line, NoRoom};
 use calls::{Answer, Freed, PlayerFault};
 
 fn freed_name(kind: Freed) -> &'static str
@@ -25,32 +26,32 @@ fn put_answer(line: &mut Line, answer: Answer)
     ensures short { length line.new < LINE_ROOM }
 {
     match answer {
-        Answer::Refused(refusal) => line.digits(refusal.number()),
-        Answer::Done => line.text("0"),
+        Answer::Refused(refusal) => line.push_digits(refusal.number()),
+        Answer::Done => line.push_text("0"),
         Answer::Value(value) => {
-            line.text("0");
-            line.number(value);
+            line.push_text("0");
+            line.push_number(value);
         }
         Answer::Same(same) => {
-            line.text("0");
-            line.number(u8::from(same));
+            line.push_text("0");
+            line.push_number(u8::from(same));
         }
         Answer::Tally(usage) => {
-            line.text("0");
-            line.number(usage.words);
-            line.number(usage.cars);
-            line.number(usage.trains);
-            line.number(u8::from(usage.mark));
+            line.push_text("0");
+            line.push_number(usage.words);
+            line.push_number(usage.cars);
+            line.push_number(usage.trains);
+            line.push_number(u8::from(usage.mark));
         }
         Answer::Step(report) => {
-            line.text("0");
-            line.word(freed_name(report.kind));
-            line.number(report.out);
-            line.number(report.back);
-            line.number(report.copied);
-            line.number(report.lost);
-            line.number(report.looked);
-            line.number(report.cars);
+            line.push_text("0");
+            line.push_word(freed_name(report.kind));
+            line.push_number(report.out);
+            line.push_number(report.back);
+            line.push_number(report.copied);
+            line.push_number(report.lost);
+            line.push_number(report.looked);
+            line.push_number(report.cars);
         }
     }
 }
@@ -62,30 +63,30 @@ fn put_fault(line: &mut Line, fault: PlayerFault)
 {
     let PlayerFault::Reader(fault) = fault;
     let at = fault.position();
-    line.text("reader");
-    line.number(fault.number());
-    line.word("line");
-    line.number(at.line);
-    line.word("at");
-    line.number(at.place);
+    line.push_text("reader");
+    line.push_number(fault.number());
+    line.push_word("line");
+    line.push_number(at.line);
+    line.push_word("at");
+    line.push_number(at.place);
 }
 
-/// Writes an answer's line at `at` and gives the place behind it, or none where fewer than 64 bytes stand there.
-pub fn write_answer(out: &mut [u8], at: usize, answer: &Answer) -> Option<usize>
-    ensures { WritesLine out.old at (answer_line answer.now) out.new result }
+// What the two public functions share is in `Line`; the rest is which part is put into it.
+
+/// Writes an answer's line at `at` and gives the place behind it. Where fewer than 64 bytes stand there, nothing is written.
+pub fn write_answer(out: &mut [u8], at: usize, answer: &Answer) -> Result<usize, NoRoom>
+    ensures { WritesLine out.old at (answer_line answer.now) out.new (result_ok result) }
 {
     let mut line = Line::new();
     put_answer(&mut line, *answer);
-    line.write(out, at)
+    line.finish(out, at)
 }
 
-// What the two functions share is in `Line`; the rest is which part is put into it. `None` has one reason, so an error
-// type would say no more.
-/// Writes a fault's line in the same way.
-pub fn write_fault(out: &mut [u8], at: usize, fault: &PlayerFault) -> Option<usize>
-    ensures { WritesLine out.old at (fault_line fault.now) out.new result }
+/// Writes a fault's line as `write_answer` writes an answer's.
+pub fn write_fault(out: &mut [u8], at: usize, fault: &PlayerFault) -> Result<usize, NoRoom>
+    ensures { WritesLine out.old at (fault_line fault.now) out.new (result_ok result) }
 {
     let mut message = Line::new();
     put_fault(&mut message, *fault);
-    message.write(out, at)
+    message.finish(out, at)
 }
