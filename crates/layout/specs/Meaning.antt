@@ -1,8 +1,8 @@
 -- What a layout means: which shapes it admits, and where the words of an object of each shape lie.
 use Rattle.std.specs.Prelude.{◌≡◌, ℕ, ◌+◌, ◌<◌, ◌≤◌, Bool, true, ◌≢◌}
 
--- a shape is a kind and two numbers, given one by one here, since proofs speak of each number by itself;
--- what is said of one that is not admitted means nothing
+-- a shape is a kind and two numbers, given one by one here, since proofs speak of each number by itself, and of the test
+-- of a shape apart from what is said of it; of one that is not admitted that means nothing
 pub record Meaning : Type 0 where
   pub kinds : ℕ
   pub admits : (kind refs words : ℕ) → Bool

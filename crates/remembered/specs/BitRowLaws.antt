@@ -18,15 +18,17 @@ bit_at_shift w from j k e = ap (bit_at w) (sym e) ∙ sym (ap (λ m. m % 2) (shr
 pub word_none : (w from : ℕ) → w / 2 ^ from ≡ 0 → (k : ℕ) → from ≤ k → bit w k ≡ false
 word_none w from e k h = ap (λ b. nat_eq b 1) (bit_at_shift w from (k - from) k (omega arith) ∙ ap (λ m. bit_at m (k - from)) e ∙ bit_at-zero (k - from))
 
--- the lowest bit, at or above some place, of a word that has one
-pub word_next : (w from : ℕ) → w < 2 ^ 64 → 0 < w / 2 ^ from → Least (bit w) from (Some (from + trailing_zeros w64 (w / 2 ^ from)))
-word_next w from fits pos =
-    let first = bit_at-trailing_zeros w64 (w / 2 ^ from) pos (omega (arith, shr_le w from)) in
-    (omega arith, ap (λ b. nat_eq b 1) (bit_at_shift w from _ _ refl ∙ first.1), λ k h l. ap (λ b. nat_eq b 1) (bit_at_shift w from (k - from) k (omega arith) ∙ first.2 (k - from) (omega arith)))
-
 -- a word has 64 bits
 pub bit_within : (w k : ℕ) → w < 2 ^ 64 → bit w k ≡ true → k < 64
 bit_within w k fits is = ⊎_elim (λ l. l) (λ (g : 64 ≤ k). cc (ap (λ b. nat_eq b 1) (bit_at_above w 64 k fits g))) (cases_lt k 64)
+
+-- the lowest bit, at or above some place, of a word that has one
+pub word_next : (w from : ℕ) → w < 2 ^ 64 → 0 < w / 2 ^ from
+    → Least (bit w) from (Some (from + trailing_zeros w64 (w / 2 ^ from))) × (from + trailing_zeros w64 (w / 2 ^ from) < 64)
+word_next w from fits pos =
+    let first = bit_at-trailing_zeros w64 (w / 2 ^ from) pos (omega (arith, shr_le w from)) in
+    let is : bit w (from + trailing_zeros w64 (w / 2 ^ from)) ≡ true = ap (λ b. nat_eq b 1) (bit_at_shift w from _ _ refl ∙ first.1) in
+    ((omega arith, is, λ k h l. ap (λ b. nat_eq b 1) (bit_at_shift w from (k - from) k (omega arith) ∙ first.2 (k - from) (omega arith))), bit_within w _ fits is)
 
 -- one bit of a word is set
 bit_set : (w k j : ℕ) → k < 64 → bit (bit_or w (1 * 2 ^ k % 2 ^ 64)) j ≡ (bit w j || j == k)

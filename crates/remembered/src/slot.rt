@@ -165,7 +165,7 @@ impl SlotSet {
         self.used += 1;
     }
 
-    // Makes a car overflow.
+    // Makes a car overflow. There is a car of that number by `requires` here and below, since the call has asked.
     fn overflow(&mut self, car: u32)
         requires { car < 64 }
         ensures { OverflowsCar self.old car self.new }

@@ -24,6 +24,7 @@ impl Shape {
             1 => 1 <= refs && refs <= 63 && words == 0,
             _ => false,
         };
+        // `usize` has no `From<u32>`.
         fits.then_some(Shape {
             refs: refs as usize,
             words: words as usize,

@@ -32,6 +32,7 @@ fn play_lines(
 ) -> Result<Vec<u8>, Failure> {
     let mut space = Space::open(heap, choice);
     let mut output = vec![in heap; 0u8; lines.saturating_mul(LINE_ROOM)]?;
+    // The writer lays each line into a lent buffer, as C will lend one, so how far it is filled stands beside it.
     let mut written = 0;
     for (number, text) in (1..=u32::MAX).zip(Lines::new(script)) {
         match read(text, number) {

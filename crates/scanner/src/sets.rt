@@ -1,9 +1,8 @@
 // Remembered sets by their meaning: plain sets of pairs of a car and an address.
 use crate::failure::Failure;
+use crate::trains::CARS;
 use std::alloc::Global;
 use std::collections::BTreeSet;
-
-const CARS: usize = 64;
 
 const ADDRESSES: usize = 8192;
 

@@ -88,6 +88,7 @@ impl Space {
 
     /// Notes a slot whose car is later than the car of the object it holds.
     pub(crate) fn note_slot(&mut self, slot: Slot) -> Result<(), Failure> {
+        // A `match`, since the one arm can fail: a chain would need `transpose`.
         match self.whereabouts(slot.holds)? {
             Some((place, car_place)) if slot.car_place > car_place => self.remembered.note(Pair {
                 car: place.car,

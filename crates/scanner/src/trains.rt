@@ -5,7 +5,7 @@ use crate::objects::{CAR_WORDS, ObjectId, Place};
 use std::alloc::{AllocError, Global};
 use std::collections::{VecDeque, vec_deque};
 
-const CARS: usize = 64;
+pub(crate) const CARS: usize = 64;
 
 const MOST_TRAINS: usize = 8;
 

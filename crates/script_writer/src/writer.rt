@@ -71,7 +71,8 @@ fn put_fault(line: &mut Line, fault: PlayerFault)
     line.push_number(at.place);
 }
 
-// What the two public functions share is in `Line`; the rest is which part is put into it.
+// What the two public functions share is in `Line`; the rest is which part is put into it. The buffer and the place in it
+// come apart, since the buffer is lent by C.
 
 /// Writes an answer's line at `at` and gives the place behind it. Where fewer than 64 bytes stand there, nothing is written.
 pub fn write_answer(out: &mut [u8], at: usize, answer: &Answer) -> Result<usize, NoRoom>
