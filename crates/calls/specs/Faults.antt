@@ -15,7 +15,7 @@ position_at n at = record { line = n; place = at }
 abbrev pub no_number : ℕ → ℕ → WordFault
 no_number n at = record { at = position_at n at }
 
--- a word is missing, surplus, or names no call
+-- the words of the line with number n make no call, and this is the place that is told
 abbrev pub bad_words : ℕ → ℕ → LineFault
 bad_words n at = Words (position_at n at)
 

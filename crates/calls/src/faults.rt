@@ -11,7 +11,7 @@ pub struct Position {
     pub place: usize,
 }
 
-/// A word that is not a number of its range, by where it begins.
+/// A word that writes no number that may stand there, by where it begins.
 #[derive(Clone, Copy, PartialEq, Eq, Debug)]
 pub struct WordFault {
     pub at: Position,
@@ -20,9 +20,9 @@ pub struct WordFault {
 /// What is wrong with a line.
 #[derive(Clone, Copy, PartialEq, Eq, Debug)]
 pub enum LineFault {
-    /// A word is missing, surplus, or names no call.
+    /// The words make no call: the first one names none, or there are too few of them or too many.
     Words(Position),
-    /// A word is not a number of its range.
+    /// A word writes no number that may stand there.
     Number(WordFault),
 }
 

@@ -1,5 +1,5 @@
 -- What an object has inside, and what a call on the roots' objects answers and changes.
-use Rattle.std.specs.Prelude.{ℕ, ◌+◌, ◌-◌, Bool, ◌&&◌, List, length, replicate, ℤ, pos, negsuc, Some, None, Option, nat_le, nat_lt, slice_index, slice_index_or, slice_set, find, nat_eq, option_and_then, option_map, if◌then◌else◌, not}
+use Rattle.std.specs.Prelude.{ℕ, ◌+◌, ◌-◌, Bool, ◌&&◌, List, length, replicate, ℤ, pos, negsuc, Some, None, Option, nat_le, nat_lt, slice_index, slice_index_or, slice_set, nat_eq, option_and_then, option_map, if◌then◌else◌, not}
 use Rattle.std.specs.Option.{option_eq}
 use Rattle.calls.specs.declared.answer.Refusal.{Refusal}
 use Rattle.calls.specs.declared.answer.Refusal.TheVariants.{Root as root, Empty as empty, Missing as missing, Shape as shape, Full as full, Range as range, Buffer as buffer}

@@ -8,7 +8,7 @@ pub mod Slots
 pub mod SlotCars
 pub mod SlotCarLaws
 pub mod Buffers
-pub mod Buffered
+pub mod BufferParts
 pub mod BufferLaws
 pub mod CardLaws
 pub mod PairLists

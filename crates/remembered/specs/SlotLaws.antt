@@ -37,9 +37,9 @@ pub freed_same : (old new : List Car) (c : ℕ) → ((d b : ℕ) → kept new d 
 unfolding kept_of
 freed_same old new c h d ne = count_same (kept new d) (kept old d) 8192 (λ k l. grind (arith, common_steps, ne, h d k))
 
-pub kept-outside : (old : List Car) (c : ℕ) → 64 ≤ c → kept_of old c ≡ 0
+pub kept-outside : (cars : List Car) (c : ℕ) → 64 ≤ c → kept_of cars c ≡ 0
 unfolding kept_of
-kept-outside old c h = count_none (kept old c) 8192 (λ k l. grind (arith, common_steps))
+kept-outside cars c h = count_none (kept cars c) 8192 (λ k l. grind (arith, common_steps))
 
 -- the counts when no pair of a car is changed
 pub unchanged : (old new : List Car) (c : ℕ) → ((a : ℕ) → kept new c a ≡ kept old c a) → kept_of new c ≡ kept_of old c
@@ -52,8 +52,8 @@ unfolding kept_of kept_count
 kept_of-row cars c h = count_same (kept cars c) (bit_in (car_at cars c).kept) 8192 (λ k l. ap (λ x. x && bit_in (car_at cars c).kept k) (range_from c k h l))
 
 -- a new pair is in range and not kept
-pub new_parts : (old : List Car) (c a : ℕ) → new_in (slot_pairs old) c a ≡ true → (c < 64) × (a < 8192) × (kept old c a ≡ false)
-new_parts old c a e = let q = range_parts c a (and_parts (in_range c a) _ e).0 in (q.0, q.1, grind (arith, common_steps))
+pub new_parts : (cars : List Car) (c a : ℕ) → new_in (slot_pairs cars) c a ≡ true → (c < 64) × (a < 8192) × (kept cars c a ≡ false)
+new_parts cars c a e = let q = range_parts c a (and_parts (in_range c a) _ e).0 in (q.0, q.1, grind (arith, common_steps))
 
 -- the pairs that the set has after a forget
 pub freed_pairs : (old : List Car) (c : ℕ) (new : List Car) → ((d b : ℕ) → kept new d b ≡ (not (d == c) && kept old d b)) → ((d : ℕ) → is_over new d ≡ (not (d == c) && is_over old d)) → (d b : ℕ) → slot_pairs new d b ≡ (not (d == c) && slot_pairs old d b)
@@ -69,8 +69,8 @@ pub slot_others : (old : List Car) (c : ℕ) (new : List Car) → SlotForgot old
 slot_others old c new n d b ne e = grind (arith, common_steps, n.others d b)
 
 -- what stands for a state has the pairs of the state
-pub slot_agrees : (old : List Car) (σ : Slots) → SlotStands old σ → (c a : ℕ) → slot_pairs old c a ≡ slot_in σ c a
-slot_agrees old σ s c a = grind (arith, common_steps, s.kept_is c a, s.over_is c)
+pub slot_agrees : (cars : List Car) (σ : Slots) → SlotStands cars σ → (c a : ℕ) → slot_pairs cars c a ≡ slot_in σ c a
+slot_agrees cars σ s c a = grind (arith, common_steps, s.kept_is c a, s.over_is c)
 
 -- a note has one of three outcomes
 note_cases : (P : Slots → Type 0) (c a : ℕ) (σ : Slots) → (new_in (slot_in σ) c a ≡ false → P σ)

@@ -37,7 +37,7 @@ fn nearer(best: Option<u32>, pair: Pair, car: u32, from: u32) -> Option<u32>
 }
 
 impl<S> Buffered<S> {
-    ghost use Rattle.remembered.specs.Buffered.{set_below, held_pairs};
+    ghost use Rattle.remembered.specs.BufferParts.{set_below, held_pairs};
 
     /// An empty buffer above a set.
     pub fn over(below: S) -> Buffered<S>
@@ -103,7 +103,7 @@ impl<S: RememberedSet> Buffered<S> {
         }
     }
 
-    // The least address, at or above `from`, paired with the car below or held.
+    // The first address from `from` on that the set below or a held pair has with the car.
     fn nearest(&self, car: u32, from: u32) -> Option<u32>
         ensures { Least (with_held (S.has self.now.below) self.now.held.items car) from result }
     {

@@ -1,4 +1,4 @@
-//! The card set: for each car, which of the 512 cards of 16 words are marked.
+//! The card set: a mark for each car and each card, that is 16 addresses that lie side by side; memory has 512 cards.
 
 ghost use Rattle.std.specs.Prelude.{◌≡◌, ◌/◌, ◌<◌};
 ghost use Rattle.remembered.specs.Cards.{card_has, marked, CardNoted, CardForgot, CardTold};

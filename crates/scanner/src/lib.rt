@@ -1,5 +1,5 @@
 // A second player of the whole system, kept simple: it finds references by looking at every object. It shares no type and
-// no number with the crates that it is to be compared with, so that it makes no mistake of theirs.
+// no number with the crates that it is to be compared with, so that it cannot share a mistake of theirs.
 #![tactic(auto)]
 
 mod answering;

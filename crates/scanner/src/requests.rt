@@ -28,8 +28,8 @@ impl MoveRequests {
 }
 
 impl Space {
-    /// All requests as they stand now; `slots` has every slot, by car from early to late, then by address. Slots of
-    /// other trains send what they hold to their own train; slots in the other cars of the first train keep it in that
+    /// All requests as they stand now; `slots` has every slot, in the order that `Space::slots` gives. Slots of other
+    /// trains send what they hold to their own train; slots in the other cars of the first train keep it in that
     /// train.
     pub(crate) fn requests(&self, slots: &[Slot]) -> Result<MoveRequests, Failure> {
         Ok(MoveRequests {

@@ -86,7 +86,7 @@ impl Space {
         Ok(id)
     }
 
-    /// Notes a slot whose car is later than the car of the object it holds.
+    /// Notes a slot, if what it holds lies in an earlier car than the slot itself.
     pub(crate) fn note_slot(&mut self, slot: Slot) -> Result<(), Failure> {
         // A `match`, since the one arm can fail: a chain would need `transpose`.
         match self.whereabouts(slot.holds)? {
@@ -98,7 +98,7 @@ impl Space {
         }
     }
 
-    /// Every slot that holds an object, by car from early to late, then by address.
+    /// Every slot that holds an object: the cars in their order, and in a car the addresses in theirs.
     pub(crate) fn slots(&self) -> Result<Vec<Slot>, Failure> {
         let mut slots = Vec::new(self.heap);
         for (rank, train) in self.trains.iter().enumerate() {

@@ -106,8 +106,7 @@ impl Space {
             .count()
     }
 
-    // Considers each slot of a carried object, and each slot that holds one, by car from early to late, then by
-    // address.
+    // Looks again, in the order of `slots`, at whatever slot is in a carried object or holds one.
     fn note_carried(&mut self, carried: &[ObjectId]) -> Result<(), Failure> {
         for slot in &self.slots()? {
             if carried.contains(&slot.owner) || carried.contains(&slot.holds) {

@@ -125,7 +125,7 @@ impl Trains {
         (0..CARS).find(|number| self.car_place(*number).is_none())
     }
 
-    /// Puts an object into the last car of that train if it fits, else into a free car, which becomes the last.
+    /// Puts an object into the train's last car, or, where that has no room for it, into a free car that follows it.
     /// A rank that equals the number of trains opens a train.
     pub(crate) fn place(
         &mut self,

@@ -1,4 +1,5 @@
-// A script's lines. Each ends in byte 10; the last may lack it, but is then not empty.
+// A script's lines. Byte 10 ends each of them; where no byte 10 ends the script, what stands behind the last one is a line
+// too.
 ghost use Rattle.std.specs.Prelude.{◌≡◌, ℕ, List};
 ghost use Rattle.std.specs.Result.{result_ok};
 ghost use Rattle.std.specs.Iterator.{YieldsFirstRef, item_count};
