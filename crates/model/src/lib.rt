@@ -17,17 +17,20 @@ pub fn answers_are_the_plain_graphs()
 
 /// Cars and trains stand as told, a free car is there at every moment, a step copies at most the words of one car,
 /// nothing reachable is lost, and nothing dangles.
+#[tactic(auto, using(crate::proofs::NeverFail::never_fail_law))]
 pub fn steps_never_fail()
     ensures { StepsNeverFail }
 {}
 
 /// With j the highest rank of a train that has waste, or that a mark on waste sends to, the waste of a halt is gone after
 /// (j + 1) × 99,840 further steps, whatever else is called between them.
+#[tactic(auto, using(crate::proofs::WasteLaws::waste_near_the_front))]
 pub fn waste_near_the_front_leaves_sooner()
     ensures { WasteNearTheFrontLeavesSooner }
 {}
 
 /// With t trains at a halt its waste is gone after (t + 1) × 99,840 further steps, whatever else is called between them.
+#[tactic(auto, using(crate::proofs::WasteLaws::waste_leaves))]
 pub fn waste_leaves_in_counted_steps()
     ensures { WasteLeavesInCountedSteps }
 {}
@@ -44,11 +47,12 @@ pub fn no_reference_is_overlooked()
 
 /// All of these for a layout and a remembered set of the code, by what they mean.
 pub fn laws_of<L: Layout, R: RememberedSet>()
-    ensures uses { LawsOf L.Layout.meaning R.RememberedSet.means }
-    ensures remembers { OverlooksNothing L.Layout.meaning R.RememberedSet.means }
+    ensures uses { LawsOf L.meaning R.means }
+    ensures remembers { OverlooksNothing L.meaning R.means }
 {}
 
 /// What the definitions give for the worked examples.
+#[tactic(auto, using(crate::proofs::Examples::examples))]
 pub fn worked_examples()
     ensures { WorkedExamples }
 {}
