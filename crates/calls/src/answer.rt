@@ -21,9 +21,9 @@ pub enum Refusal {
     Buffer,
 }
 
-/// What a step freed: nothing, the whole first train, or its first car.
+/// The kind of a step, by what it freed: nothing, the whole first train, or its first car.
 #[derive(Clone, Copy, PartialEq, Eq, Debug)]
-pub enum Freed {
+pub enum StepKind {
     /// Nothing: there was no train.
     Idle,
     /// The first train, whole.
@@ -32,12 +32,12 @@ pub enum Freed {
     Car,
 }
 
-/// A step's report: what it freed, how many objects left the first train and how many went back into it, how many
+/// A step's report: its kind, how many objects left the first train and how many went back into it, how many
 /// words were copied, how many objects were lost, at how many pairs it looked, and how many cars it freed.
-/// A car has at most 64 objects and 128 words, a train at most 1,536 objects and 64 cars.
+/// A car has at most 64 objects and 128 words, a train at most 1,536 objects and, at a halt, 48 cars.
 #[derive(Clone, Copy, PartialEq, Eq, Debug)]
 pub struct Report {
-    pub kind: Freed,
+    pub kind: StepKind,
     pub out: u8,
     pub back: u8,
     pub copied: u8,
@@ -64,6 +64,8 @@ pub enum Answer {
     Done,
     /// The data word asked for.
     Value(u32),
+    /// So many data words stand at the front of the caller's buffer.
+    Words(u32),
     /// Whether both roots hold the same.
     Same(bool),
     Tally(Usage),

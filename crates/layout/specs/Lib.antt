@@ -1,4 +1,3 @@
-pub mod Meaning
 pub mod Coding
 pub mod Record
 pub mod Array
@@ -7,3 +6,6 @@ pub mod LowPart
 pub mod Halves
 pub mod Product
 pub mod Counts
+pub mod ShapeTable
+pub mod Admitted
+pub mod Gapless

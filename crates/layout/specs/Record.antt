@@ -1,70 +1,33 @@
 -- A record: up to 15 references and up to 15 data words, one word at least, references first.
-use Rattle.std.specs.Prelude.{◌≡◌, ℕ, ◌+◌, ◌*◌, ◌/◌, ◌%◌, ◌≤◌, true, ◌&&◌, ◌==◌, nat_le, refl}
+use Rattle.std.specs.Prelude.{ℕ, ◌+◌, ◌*◌, ◌/◌, ◌%◌, Bool, ◌&&◌, ◌==◌, nat_le}
+use Rattle.std.specs.Bool.{then_some}
 use Rattle.std.proofs.Common.{arith}
 use Rattle.std.proofs.lemmas.Bool.Decides.{nat_tests}
 use Rattle.layout.specs.declared.record.TheConstants.{MOST_OF_EACH}
-use Rattle.layout.specs.LowPart.{low_part, low_part-range, low_part-self}
-use Rattle.layout.specs.Meaning.{Meaning, Lawful}
-use Rattle.layout.specs.Coding.{Coding, Coded, refs_first}
+use Rattle.layout.specs.declared.Shape.{Shape}
+use Rattle.layout.specs.LowPart.{low_part, low_part_self}
+use Rattle.layout.specs.ShapeTable.{ShapeTable, Offsets, Lawful, refs_first}
+use Rattle.layout.specs.Coding.{Coded}
 
-abbrev pub record_meaning : Meaning
-record_meaning = record {
-  kinds = 1;
-  admits = λ k r w. (k == 0) && (nat_le r MOST_OF_EACH && (nat_le w MOST_OF_EACH && nat_le 1 (r + w)));
-  ref_count = λ k r w. r;
-  word_count = λ k r w. w;
-  ref_offset = λ k r w i. 1 + i;
-  word_offset = λ k r w j. 1 + r + j;
-}
+abbrev pub is_record : Shape → Bool
+is_record s =
+    (s.kind == 0) && (nat_le s.refs MOST_OF_EACH && (nat_le s.words MOST_OF_EACH && nat_le 1 (s.refs + s.words)))
+
+abbrev pub record_table : ShapeTable
+record_table = record { kinds = 1; offsets = λ s. then_some (is_record s) (refs_first s.refs s.words) }
+
+abbrev pub record_code : Shape → ℕ
+record_code s = s.refs + 16 * s.words
 
 -- the low eight bits of a header, and 16, one data word alone, in the place of 0, which is no shape
-abbrev pub record_shape : ℕ → ℕ
-record_shape = low_part 256 16
+abbrev pub record_bits : ℕ → ℕ
+record_bits = low_part 256 16
 
-abbrev pub record_coding : Coding
-record_coding = record {
-  code = λ k r w. r + 16 * w;
-  refs_of = λ h. record_shape h % 16;
-  words_of = λ h. record_shape h / 16;
-  ref_at = λ h i. 1 + i;
-  word_at = λ h j. 1 + record_shape h % 16 + j;
-}
+abbrev pub record_decoded : ℕ → Offsets
+record_decoded h = refs_first (record_bits h % 16) (record_bits h / 16)
 
--- what is admitted, number by number
-pub record RecordShape (k r w : ℕ) : Type 0 where
-  pub first_kind : k ≡ 0
-  pub few_refs : r ≤ 15
-  pub few_words : w ≤ 15
-  pub some : 1 ≤ r + w
+pub record_lawful : Lawful record_table
+record_lawful = grind (arith, nat_tests)
 
-pub record_admits : (k r w : ℕ) → record_meaning.admits k r w ≡ true → RecordShape k r w
-record_admits k r w a = record {
-  first_kind = grind (arith, nat_tests);
-  few_refs = grind (arith, nat_tests);
-  few_words = grind (arith, nat_tests);
-  some = grind (arith, nat_tests);
-}
-
-pub record_lawful : Lawful record_meaning
-record_lawful = record {
-  known = λ k r w a. let s = record_admits k r w a in omega arith;
-  apart = λ k r w a. let s = record_admits k r w a in refs_first r w (omega arith) (omega arith);
-}
-
-pub record_coded : Coded record_meaning record_coding
-record_coded = record {
-  few_kinds = omega arith;
-  apart = λ h.
-      let b = low_part-range 256 16 h (omega arith) (omega arith) in
-      refs_first (record_shape h % 16) (record_shape h / 16) (omega arith) (omega arith);
-  gives_back = λ k r w a.
-      let s = record_admits k r w a in
-      let e : record_shape (r + 16 * w) ≡ r + 16 * w = low_part-self 256 16 (r + 16 * w) (omega arith) (omega arith) in
-      record {
-        fits = omega arith;
-        refs = rw e (omega arith);
-        words = rw e (omega arith);
-        ref_offsets = λ i h. refl;
-        word_offsets = λ j h. rw e (omega arith);
-      };
-}
+pub record_coded : Coded record_table record_code record_decoded
+record_coded = grind (arith, nat_tests, low_part_self)

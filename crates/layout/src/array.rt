@@ -1,5 +1,6 @@
 // Arrays: 1 to 63 references and no data words.
-ghost use Rattle.layout.specs.Array.{array_meaning, array_coding, array_lawful, array_coded};
+ghost use Rattle.layout.specs.Array.{array_table, array_code, array_decoded};
+ghost use Rattle.layout.specs.Array.{array_lawful, array_coded};
 
 use crate::words::{Run, low_part};
 use crate::{Layout, Shape};
@@ -12,13 +13,11 @@ pub const MOST_REFERENCES: u32 = 63;
 pub struct Array;
 
 impl Layout for Array {
-    ghost meaning = { array_meaning };
+    ghost table = { array_table };
 
-    ghost coding = { array_coding };
+    ghost code = { array_code };
 
-    ghost lawful = { array_lawful };
-
-    ghost coded = { array_coded };
+    ghost decoded = { array_decoded };
 
     fn kinds() -> u32 {
         1
@@ -52,4 +51,8 @@ impl Layout for Array {
     fn reference_at(header: u32, offset: u32) -> Option<u32> {
         Run::behind_header(Self::references(header)).index_at(offset)
     }
+
+    ghost lawful = { array_lawful };
+
+    ghost coded = { array_coded };
 }

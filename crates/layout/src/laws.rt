@@ -1,8 +1,10 @@
 // What holds of every layout.
-ghost use Rattle.std.specs.Prelude.{◌≡◌, false, MatchOption};
-ghost use Rattle.layout.specs.Coding.{Coded, is_admitted};
-ghost use Rattle.layout.specs.Counts.{GivesBackCounts};
-ghost use Rattle.layout.specs.Meaning.{Lawful};
+ghost use Rattle.std.specs.Prelude.{◌≡◌};
+ghost use Rattle.std.specs.Option.{option_map};
+ghost use Rattle.layout.specs.Coding.{Coded};
+ghost use Rattle.layout.specs.Counts.{counts_of};
+ghost use Rattle.layout.specs.Gapless.{LeavesNoGap};
+ghost use Rattle.layout.specs.ShapeTable.{Lawful};
 
 use crate::{Layout, Shape};
 
@@ -15,11 +17,10 @@ pub struct Counts {
 
 /// From a shape to its header word and back to its counts: the word alone gives a shape back.
 pub fn headers_give_back_shapes<L: Layout>(shape: Shape) -> Option<Counts>
-    ensures counts { MatchOption result
-        (is_admitted L.meaning shape ≡ false)
-        (GivesBackCounts L.meaning shape) }
-    ensures shapes { Lawful L.meaning }
-    ensures headers { Coded L.meaning L.coding }
+    ensures counts { result ≡ option_map counts_of (L.table.offsets shape) }
+    ensures shapes { Lawful L.table }
+    ensures no_gaps { LeavesNoGap L.table }
+    ensures headers { Coded L.table L.code L.decoded }
 {
     let header = L::header(shape)?;
     Some(Counts {

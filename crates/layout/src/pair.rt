@@ -2,8 +2,8 @@
 // pairs nest: a pair of small headers has small headers again.
 ghost use Rattle.std.specs.Prelude.{◌≡◌, ◌<◌};
 ghost use Rattle.std.specs.Option.{SomeIff};
-ghost use Rattle.layout.specs.Pair.{pair_meaning, pair_coding, pair_lawful, pair_coded};
-ghost use Rattle.layout.specs.Pair.{half_headers};
+ghost use Rattle.layout.specs.Pair.{pair_table, pair_code, pair_decoded, half_headers};
+ghost use Rattle.layout.specs.Pair.{pair_lawful, pair_coded};
 
 use crate::{Layout, Shape};
 
@@ -15,13 +15,11 @@ pub struct Pair<A: Layout, B: Layout> {
 }
 
 impl<A: Layout, B: Layout> Layout for Pair<A, B> {
-    ghost meaning = { pair_meaning A.meaning A.coding B.meaning B.coding };
+    ghost table = { pair_table A.table B.table A.code B.code };
 
-    ghost coding = { pair_coding A.meaning A.coding B.coding };
+    ghost code = { pair_code A.table.kinds A.code B.code };
 
-    ghost lawful = { pair_lawful A.meaning A.coding B.meaning B.coding A.lawful A.coded B.lawful };
-
-    ghost coded = { pair_coded A.meaning A.coding B.meaning B.coding A.coded B.coded };
+    ghost decoded = { pair_decoded A.decoded B.decoded };
 
     fn kinds() -> u32 {
         A::kinds().saturating_add(B::kinds())
@@ -64,6 +62,10 @@ impl<A: Layout, B: Layout> Layout for Pair<A, B> {
             |own| B::reference_at(own, offset),
         )
     }
+
+    ghost lawful = { pair_lawful B.code A.lawful A.coded B.lawful };
+
+    ghost coded = { pair_coded A.coded B.coded };
 }
 
 /// Headers from here on cannot be doubled.

@@ -1,6 +1,6 @@
 // The layout that the product uses.
 ghost use Rattle.layout.specs.Product.{HeadedProduct, ProductShapes, SmallHeaders};
-ghost use Rattle.layout.specs.Product.{product_meaning, product_coding};
+ghost use Rattle.layout.specs.Product.{product_table, product_code};
 
 use crate::array::Array;
 use crate::pair::Pair;
@@ -14,7 +14,7 @@ pub type Product = Pair<Record, Array>;
 #[tactic(auto, using(crate::proofs::Products::product_shapes, crate::proofs::Products::small_headers))]
 pub fn product_header(shape: Shape) -> Option<u32>
     ensures answer { HeadedProduct shape result }
-    ensures shapes { ProductShapes product_meaning product_coding }
+    ensures shapes { ProductShapes product_table product_code }
     ensures small { SmallHeaders }
 {
     Product::header(shape)

@@ -1,7 +1,7 @@
 // Records: up to 15 references, and behind them up to 15 data words.
 ghost use Rattle.std.specs.Prelude.{◌≡◌};
-ghost use Rattle.layout.specs.Record.{record_meaning, record_coding, record_lawful, record_coded};
-ghost use Rattle.layout.specs.Record.{record_shape};
+ghost use Rattle.layout.specs.Record.{record_table, record_code, record_decoded};
+ghost use Rattle.layout.specs.Record.{record_bits, record_lawful, record_coded};
 
 use crate::words::{Run, low_part};
 use crate::{Layout, Shape};
@@ -15,13 +15,11 @@ pub const MOST_OF_EACH: u32 = 15;
 pub struct Record;
 
 impl Layout for Record {
-    ghost meaning = { record_meaning };
+    ghost table = { record_table };
 
-    ghost coding = { record_coding };
+    ghost code = { record_code };
 
-    ghost lawful = { record_lawful };
-
-    ghost coded = { record_coded };
+    ghost decoded = { record_decoded };
 
     fn kinds() -> u32 {
         1
@@ -59,12 +57,16 @@ impl Layout for Record {
     fn reference_at(header: u32, offset: u32) -> Option<u32> {
         Run::behind_header(Self::references(header)).index_at(offset)
     }
+
+    ghost lawful = { record_lawful };
+
+    ghost coded = { record_coded };
 }
 
 // References in the low four bits, data words in the next four. No record is empty, so a word
 // that says so stands for one data word.
 fn shape(header: u32) -> u32
-    ensures { result ≡ record_shape header }
+    ensures { result ≡ record_bits header }
 {
     low_part::<256>(header, 16)
 }

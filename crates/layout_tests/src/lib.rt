@@ -1,6 +1,8 @@
 // Table tests of the layouts: the edges of what is admitted, and what headers tell.
 #![tactic(auto)]
 
+pub mod turns;
+
 #[cfg(test)]
 mod tests {
     use layout::pair::Pair;

@@ -4,7 +4,7 @@ use Rattle.std.specs.List.{AllByRecursion}
 use Rattle.std.proofs.lemmas.Bool.{cond_both}
 use Rattle.std.proofs.lemmas.List.{take-map}
 use Rattle.model.specs.Trains.{Obj, Train, Trains, train_objects, objects, place, place_at, fits, with_object, opened, numbers, lowest_free}
-use Rattle.model.specs.Claims.{Taken, take_out, in_front, visit, close, claim, Wish, Claim, claims}
+use Rattle.model.specs.Claims.{Taken, take_out, in_front, scan, cheney, claim, MoveRequest, Claim, claims}
 use Rattle.model.specs.Step.{claimed, place_all}
 use Rattle.model.proofs.Totals.{claimed_row}
 
@@ -53,30 +53,30 @@ module _ (P : Obj → Type 0) where
   then_all : (os : List Obj) (t : Taken Obj) → AllByRecursion P os → Both t → Both (in_front os t)
   then_all os t p q = (all_++ P os t.taken p q.0, q.1)
 
-  pub visit_all : (rs : List (Option ℕ)) (left : List Obj) → AllByRecursion P left → Both (visit rs left)
-  visit_all [] left p = (tt, p)
-  visit_all (None ∷ rs) left p = visit_all rs left p
-  visit_all (Some x ∷ rs) left p =
+  pub scan_all : (rs : List (Option ℕ)) (left : List Obj) → AllByRecursion P left → Both (scan rs left)
+  scan_all [] left p = (tt, p)
+  scan_all (None ∷ rs) left p = scan_all rs left p
+  scan_all (Some x ∷ rs) left p =
       let t = take_out x left in
       let q = take_out_all x left p in
-      then_all t.taken (visit rs t.left) q.0 (visit_all rs t.left q.1)
+      then_all t.taken (scan rs t.left) q.0 (scan_all rs t.left q.1)
 
-  pub close_all : (n : ℕ) (q left : List Obj) → AllByRecursion P left → Both (close n q left)
-  close_all zero q left p = (tt, p)
-  close_all (suc n) [] left p = (tt, p)
-  close_all (suc n) (o ∷ q) left p =
-      let t = visit o.body.refs left in
-      let b = visit_all o.body.refs left p in
-      then_all t.taken (close n (q ++ t.taken) t.left) b.0 (close_all n (q ++ t.taken) t.left b.1)
+  pub cheney_all : (n : ℕ) (q left : List Obj) → AllByRecursion P left → Both (cheney n q left)
+  cheney_all zero q left p = (tt, p)
+  cheney_all (suc n) [] left p = (tt, p)
+  cheney_all (suc n) (o ∷ q) left p =
+      let t = scan o.body.refs left in
+      let b = scan_all o.body.refs left p in
+      then_all t.taken (cheney n (q ++ t.taken) t.left) b.0 (cheney_all n (q ++ t.taken) t.left b.1)
 
   pub claim_all : (x : ℕ) (left : List Obj) → AllByRecursion P left → Both (claim x left)
   claim_all x left p =
       let t = take_out x left in
       let b = take_out_all x left p in
-      then_all t.taken (close (length left) t.taken t.left) b.0 (close_all (length left) t.taken t.left b.1)
+      then_all t.taken (cheney (length left) t.taken t.left) b.0 (cheney_all (length left) t.taken t.left b.1)
 
   -- the objects carried out of a car, and those lost, are of that car
-  pub claims_all : (ws : List Wish) (left : List Obj) → AllByRecursion P left → AllByRecursion P (claimed (claims ws left).taken) × AllByRecursion P (claims ws left).left
+  pub claims_all : (ws : List MoveRequest) (left : List Obj) → AllByRecursion P left → AllByRecursion P (claimed (claims ws left).taken) × AllByRecursion P (claims ws left).left
   claims_all [] left p = (tt, p)
   claims_all (w ∷ ws) left p =
       let t = claim w.who left in

@@ -1,14 +1,15 @@
 -- How full cars are, how many there are, and that one is always free.
-use Rattle.std.proofs.Common.{◌≡◌, ℕ, zero, suc, ◌+◌, ◌*◌, ◌<◌, ◌≤◌, Bool, true, false, ◌&&◌, ltb, leb, List, [], ◌∷◌, ◌++◌, length, take, None, Option, refl, arith, length-append, cond, pred, sum_by, ap}
+use Rattle.std.proofs.Common.{◌≡◌, ℕ, zero, suc, ◌+◌, ◌*◌, ◌<◌, ◌≤◌, Bool, true, false, ◌&&◌, ltb, leb, List, [], ◌∷◌, ◌++◌, length, take, Some, None, Option, option_map, refl, sym, arith, length-append, cond, pred, sum_by, ap}
 use lib.ListN.{length-replicate}
 use Rattle.std.proofs.lemmas.Bool.{leb-true, leb-false, ltb-true, and_parts}
 use Rattle.std.specs.List.{AllByRecursion}
 use Rattle.std.proofs.lemmas.List.Sums.{sum_by-append, sum_by-take-le}
 use Rattle.std.proofs.lemmas.List.{length-map, take-map}
-use Rattle.layout.specs.Meaning.{Meaning, Lawful}
-use Rattle.model.specs.Bodies.{fresh, size}
+use Rattle.layout.specs.declared.Shape.{Shape}
+use Rattle.layout.specs.ShapeTable.{ShapeTable, Offsets, Lawful}
+use Rattle.model.specs.Bodies.{Body, fresh, new_body, size}
 use Rattle.model.specs.Trains.{Obj, Car, Train, Trains, train_objects, obj_size, words_of, words_in_use, cars_in_use, car_numbers, numbers, place, place_at, fits, with_object, opened, lowest_free, last_cars, arrival, most_trains, car_words}
-use Rattle.model.specs.Claims.{Wish, Claim, claims, Taken}
+use Rattle.model.specs.Claims.{MoveRequest, Claim, claims, Taken}
 use Rattle.model.specs.Step.{claimed, copied_of, place_all, trim}
 use Rattle.model.specs.Space.{Model, carried}
 use Rattle.model.specs.Laws.{moment, FreeCar}
@@ -157,7 +158,7 @@ free_car ts h =
 
 -- A step copies no more than a car's words, and has a free car at each moment.
 
-pub copied_few : (f : Car) (ws : List Wish) → words_of f.objects ≤ 128 → copied_of (claims ws f.objects).taken ≤ 128
+pub copied_few : (f : Car) (ws : List MoveRequest) → words_of f.objects ≤ 128 → copied_of (claims ws f.objects).taken ≤ 128
 copied_few f ws h = omega (arith, claims-total obj_size ws f.objects)
 
 pub total-take : (g : Obj → ℕ) (n : ℕ) (row : List Claim) → sum_by g (claimed (take n row)) ≤ sum_by g (claimed row)
@@ -188,9 +189,17 @@ free_at_moment f cs ts m p w l s r n = go (carried f cs ts m) (claims_all Sized 
 
 -- A new object has from 2 to 64 words.
 
-pub fresh_sized : (M : Meaning) → Lawful M → (k r w : ℕ) → M.admits k r w ≡ true → (2 ≤ size (fresh M k r w)) × (size (fresh M k r w) ≤ 64)
-fresh_sized M law k r w e =
-    let a = law.apart k r w e in
-    let p = length-replicate {A = Option ℕ} (M.ref_count k r w) None in
-    let q = length-replicate {A = ℕ} (M.word_count k r w) 0 in
+-- what a make is to make is a new object of an admitted shape
+pub fresh_is : (M : ShapeTable) (s : Shape) (b : Body) → new_body M s ≡ Some b → (o : Offsets) × (M.offsets s ≡ Some o) × (b ≡ fresh s o)
+fresh_is M s b e = go (M.offsets s) refl e
+  where
+    go : (p : Option Offsets) → M.offsets s ≡ p → option_map (fresh s) p ≡ Some b → (o : Offsets) × (M.offsets s ≡ Some o) × (b ≡ fresh s o)
+    go None q e = absurd (let z : ◌≡◌ {A = ℕ} 0 1 = cc in omega arith)
+    go (Some o) q e = (o, q, (let i : fresh s o ≡ b = cc in sym i))
+
+pub fresh_sized : (M : ShapeTable) → Lawful M → (s : Shape) (o : Offsets) → M.offsets s ≡ Some o → (2 ≤ size (fresh s o)) × (size (fresh s o) ≤ 64)
+fresh_sized M law s o e =
+    let a = law.apart s o e in
+    let p = length-replicate {A = Option ℕ} o.refs None in
+    let q = length-replicate {A = ℕ} o.words 0 in
     (omega (arith, a.some, p, q), omega (arith, a.few, p, q))

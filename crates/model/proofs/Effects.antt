@@ -3,9 +3,10 @@ use Rattle.std.proofs.Common.{subst, ◌∙◌, ◌≡◌, ℕ, ◌<◌, Bool, t
 use Rattle.std.proofs.lemmas.Bool.{ltb-true}
 use Rattle.std.specs.Prelude.{find}
 use Rattle.calls.specs.declared.answer.Refusal.{Refusal}
-use Rattle.calls.specs.declared.answer.Refusal.TheVariants.{Root as root, Missing as missing, Buffer as buffer}
-use Rattle.model.specs.Calls.{Access, link, follow, drop, put, lift, get, words, same}
-use Rattle.model.specs.Bodies.{Body, Roots, held, is_root, Effect, leave, hold, point, store, Reply, object_of, unless, on_object, lifted, store_lifted, reply_of}
+use Rattle.calls.specs.declared.answer.Refusal.TheVariants.{Root, Missing, Buffer}
+use Rattle.calls.specs.declared.call.Access.{Access as OnRoots}
+use Rattle.calls.specs.declared.call.Access.TheVariants.{Link, Follow, Drop, Put, Lift, Get, Words, Same}
+use Rattle.model.specs.Bodies.{Body, Roots, held, is_root, Effect, leave, hold, point, store, Response, object_of, unless, on_object, lifted, store_lifted, response}
 
 -- a root holds x, whose object has b inside
 pub record Held (find : ℕ → Option Body) (rs : Roots) (x : ℕ) (b : Body) : Type 0 where
@@ -47,13 +48,13 @@ module _ (find : ℕ → Option Body) (rs : Roots) where
           let j : c ≡ b = ap (λ (p : ℕ × Body). p.1) s in
           (ap Some i, subst (λ (z : ℕ). find z ≡ Some b) i (q ∙ ap Some j))
 
-  on_object_any : (P : Effect → Type 0) (ok : Bool) (f : Option (ℕ × Body)) (k : ℕ → Body → Reply)
+  on_object_any : (P : Effect → Type 0) (ok : Bool) (f : Option (ℕ × Body)) (k : ℕ → Body → Response)
       → P leave → ((x : ℕ) (b : Body) → f ≡ Some (x, b) → P (k x b).effect) → P (on_object ok f k).effect
   on_object_any P false f k l g = l
   on_object_any P true None k l g = l
   on_object_any P true (Some p) k l g = g p.0 p.1 refl
 
-  unless_any : (P : Effect → Type 0) (ok : Bool) (n : Refusal) (r : Reply) → P leave → (ok ≡ true → P r.effect) → P (unless ok n r).effect
+  unless_any : (P : Effect → Type 0) (ok : Bool) (n : Refusal) (r : Response) → P leave → (ok ≡ true → P r.effect) → P (unless ok n r).effect
   unless_any P false n r l g = l
   unless_any P true n r l g = g refl
 
@@ -69,21 +70,21 @@ module _ (find : ℕ → Option Body) (rs : Roots) where
 
   module _ (Q : ℕ → Type 0) (of-roots : (r x : ℕ) → held rs r ≡ Some x → Q x)
       (of_refs : (x : ℕ) (b : Body) → Held find rs x b → (i y : ℕ) → get_or b.refs i None ≡ Some y → Q y) where
-    pub brings : (c : Access) → Brings find rs Q (reply_of find rs c).effect
-    brings (link r i q) = on_object_any (Brings find rs Q) (is_root r && is_root q) (object_of find (held rs r)) _ tt
-        (λ x b e. unless_any (Brings find rs Q) (ltb i (length b.refs)) missing _ tt
+    pub brings : (c : OnRoots) → Brings find rs Q (response find rs c).effect
+    brings (Link r i q) = on_object_any (Brings find rs Q) (is_root r && is_root q) (object_of find (held rs r)) _ tt
+        (λ x b e. unless_any (Brings find rs Q) (ltb i (length b.refs)) Missing _ tt
         (λ t. (record { body = b; holds = held_of r x b e; inside = ltb-true i (length b.refs) t }, λ y. of-roots q y)))
-    brings (follow r q i) = on_object_any (Brings find rs Q) (is_root r && is_root q) (object_of find (held rs q)) _ tt
-        (λ x b e. unless_any (Brings find rs Q) (ltb i (length b.refs)) missing _ tt
+    brings (Follow r q i) = on_object_any (Brings find rs Q) (is_root r && is_root q) (object_of find (held rs q)) _ tt
+        (λ x b e. unless_any (Brings find rs Q) (ltb i (length b.refs)) Missing _ tt
         (λ t. of_refs x b (held_of q x b e) i))
-    brings (drop r) = unless_any (Brings find rs Q) (is_root r) root _ tt (λ t y e. absurd (none_some e))
-    brings (put r w v) = on_object_any (Brings find rs Q) (is_root r) (object_of find (held rs r)) _ tt
-        (λ x b e. unless_any (Brings find rs Q) (ltb w (length b.values)) missing _ tt (word_of r w x b e))
-    brings (lift r w by) = on_object_any (Brings find rs Q) (is_root r) (object_of find (held rs r)) _ tt
-        (λ x b e. unless_any (Brings find rs Q) (ltb w (length b.values)) missing _ tt
+    brings (Drop r) = unless_any (Brings find rs Q) (is_root r) Root _ tt (λ t y e. absurd (none_some e))
+    brings (Put r w v) = on_object_any (Brings find rs Q) (is_root r) (object_of find (held rs r)) _ tt
+        (λ x b e. unless_any (Brings find rs Q) (ltb w (length b.values)) Missing _ tt (word_of r w x b e))
+    brings (Lift r w by) = on_object_any (Brings find rs Q) (is_root r) (object_of find (held rs r)) _ tt
+        (λ x b e. unless_any (Brings find rs Q) (ltb w (length b.values)) Missing _ tt
         (λ t. lifted_any Q x w (lifted (get_or b.values w 0) by) (word_of r w x b e t)))
-    brings (get r w) = on_object_any (Brings find rs Q) (is_root r) (object_of find (held rs r)) _ tt
-        (λ x b e. unless_any (Brings find rs Q) (ltb w (length b.values)) missing _ tt (λ t. tt))
-    brings (words r n) = on_object_any (Brings find rs Q) (is_root r) (object_of find (held rs r)) _ tt
-        (λ x b e. unless_any (Brings find rs Q) (leb (length b.values) n) buffer _ tt (λ t. tt))
-    brings (same r q) = unless_any (Brings find rs Q) (is_root r && is_root q) root _ tt (λ t. tt)
+    brings (Get r w) = on_object_any (Brings find rs Q) (is_root r) (object_of find (held rs r)) _ tt
+        (λ x b e. unless_any (Brings find rs Q) (ltb w (length b.values)) Missing _ tt (λ t. tt))
+    brings (Words r n) = on_object_any (Brings find rs Q) (is_root r) (object_of find (held rs r)) _ tt
+        (λ x b e. unless_any (Brings find rs Q) (leb (length b.values) n) Buffer _ tt (λ t. tt))
+    brings (Same r q) = unless_any (Brings find rs Q) (is_root r && is_root q) Root _ tt (λ t. tt)

@@ -17,5 +17,12 @@ pub mod RememberCars
 pub mod RememberSlots
 pub mod RememberTold
 pub mod Remember
+pub mod Overlooked
 pub mod NeverFail
 pub mod Examples
+pub mod Refuses
+pub mod Words
+pub mod Exact
+pub mod Reached
+pub mod General
+pub mod Bounded

@@ -1,22 +1,25 @@
 -- A step always finds a free car and copies little, and nothing that is held is lost.
-use Rattle.std.proofs.Common.{◌≡◌, ℕ, ◌<◌, ◌≤◌, [], ◌∷◌, ◌++◌, get_or, Some, None, Option, sym, refl, ap, ◌∙◌, subst, arith, eqb}
+use Rattle.std.proofs.Common.{◌≡◌, ℕ, ◌<◌, ◌≤◌, [], ◌∷◌, ◌++◌, take, get_or, Some, None, Option, sym, refl, subst, arith, eqb}
 use Rattle.std.specs.List.{IsDistinct, AllByRecursion}
-use Rattle.layout.specs.Meaning.{Meaning, Lawful}
-use Rattle.remembered.specs.Meaning.{Meaning as Remembers}
-use Rattle.model.specs.Calls.{Call, make, access, step, tally, History}
-use Rattle.model.specs.Trains.{Car, Train, Trains, train_objects, objects, words_of, times, car_words, numbers, car_count}
-use Rattle.model.specs.Claims.{Wish}
-use Rattle.model.specs.Step.{first_to, outside, wishes}
-use Rattle.model.specs.Space.{Model, all_objects, step_by, step_on, act, space_of, Use}
-use Rattle.model.specs.Laws.{FreeCar, moment, CopiesFew, CopiesFewIfStep, CopiesFewEach, StepsNeverFail}
+use Rattle.layout.specs.ShapeTable.{ShapeTable, Lawful}
+use Rattle.remembered.specs.Updates.{Pairs}
+use Rattle.calls.specs.declared.call.Call.{Call}
+use Rattle.calls.specs.declared.call.Call.TheVariants.{Make, Access, Step, Tally}
+use Rattle.model.specs.Calls.{History}
+use Rattle.model.specs.Trains.{Car, Train, Trains, train_objects, objects, words_of, obj_size, times, car_words}
+use Rattle.model.specs.Claims.{MoveRequest}
+use Rattle.model.specs.Step.{first_to, outside, requests, place_all}
+use Rattle.model.specs.Space.{Model, all_objects, carried, step_by, step_on, act, space_of, Use}
+use Rattle.model.specs.Laws.{CarsApart, FreeCar, moment, CopiesFew, CopiesFewIfStep, CopiesFewEach, StepsNeverFail}
 use Rattle.model.specs.Sound.{Sized, Filled, SoundAt}
-use Rattle.model.proofs.Alls.{all_left}
-use Rattle.model.proofs.Cars.{few_cars, free_car, free_at_moment, copied_few}
-use Rattle.model.proofs.Outside.{claims_below, wishes_below}
+use Rattle.model.proofs.Alls.{all_left, all_take, claims_all, claimed_all_take}
+use Rattle.model.proofs.Cars.{filled_tail, total-take, few_cars, free_car, free_at_moment, copied_few}
+use Rattle.model.proofs.Outside.{claims_below, requests_below}
 use Rattle.model.proofs.Keeps.{inside_body, sound_of}
-use Rattle.remembered.specs.Cards.{card_has}
-use Rattle.remembered.specs.CardLaws.{card_lawful}
-use Rattle.model.proofs.Remember.{overlooked_law}
+use Rattle.model.proofs.Remember.{place_all-numbered, numbered_at}
+use Rattle.model.proofs.RememberCars.{cars_in_row, Numbered, row_numbers}
+use Rattle.model.proofs.Totals.{claims-total, sums}
+use Rattle.model.proofs.Distinct.{distinct_nil}
 use Rattle.model.proofs.Sim.{reached_lies}
 
 first_filled : (f : Car) (cs : Train) → Filled (f ∷ cs) → words_of f.objects ≤ car_words
@@ -28,62 +31,59 @@ moments m [] s n = free_car [] (omega arith)
 moments m ([] ∷ ts) s n = absurd (omega (arith, s.standing.0))
 moments m ((f ∷ cs) ∷ ts) s n =
     free_at_moment f cs ts m s.filled s.room s.few (all_left Sized f.objects (train_objects cs) (all_left Sized (f.objects ++ train_objects cs) (objects ts) s.sized))
-    (claims_below (wishes m.roots m.mark f cs ts) f.objects (wishes_below m.roots m.mark f cs ts s.few s.mark)) n
+    (claims_below (requests m.roots m.mark f cs ts) f.objects (requests_below m.roots m.mark f cs ts s.few s.mark)) n
 
-step_copies : (M : Meaning) (has : Remembers) (ts : Trains) (m : Model) → SoundAt m.made m.roots ts m.mark → CopiesFew (step_on M has ts m).answer
-step_copies M has [] m s = (_, (refl, omega arith))
-step_copies M has ([] ∷ ts) m s = absurd (omega (arith, s.standing.0))
-step_copies M has ((f ∷ cs) ∷ ts) m s = go (first_to (train_objects (f ∷ cs)) (outside m.roots ((f ∷ cs) ∷ ts) ts))
+-- each car has a number of its own at each moment of a step
+moments_apart : (m : Model) (ts : Trains) → SoundAt m.made m.roots ts m.mark → Numbered (cars_in_row ts) → (n : ℕ) → CarsApart (moment n m ts)
+moments_apart m [] s k n = record { below = tt; differ = distinct_nil }
+moments_apart m ([] ∷ ts) s k n = absurd (omega (arith, s.standing.0))
+moments_apart m ((f ∷ cs) ∷ ts) s k n =
+    let W = requests m.roots m.mark f cs ts in
+    let row = (carried f cs ts m).taken in
+    let sizes = (claims_all Sized W f.objects (all_left Sized f.objects (train_objects cs) (all_left Sized (f.objects ++ train_objects cs) (objects ts) s.sized))).0 in
+    let below = claims_below W f.objects (requests_below m.roots m.mark f cs ts s.few s.mark) in
+    let R = place_all (f.number ∷ []) (take n row) (cs ∷ ts) in
+    let num = place_all-numbered f (take n row) (cs ∷ ts) (filled_tail f cs s.filled.0, s.filled.1)
+    (omega (arith, sums, s.room, claims-total obj_size W f.objects, total-take obj_size n row))
+    s.few (claimed_all_take Sized n row sizes) (all_take _ n row below) k in
+    record {
+      below = subst (λ ns. AllByRecursion (λ z. z < 64) (f.number ∷ ns)) (row_numbers R) num.0;
+      differ = subst (λ ns. IsDistinct eqb (f.number ∷ ns)) (row_numbers R) num.1;
+    }
+
+step_copies : (M : ShapeTable) (P : Pairs) (ts : Trains) (m : Model) → SoundAt m.made m.roots ts m.mark → CopiesFew ((step_on M ts m).reply P)
+step_copies M P [] m s = (_, (refl, omega arith))
+step_copies M P ([] ∷ ts) m s = absurd (omega (arith, s.standing.0))
+step_copies M P ((f ∷ cs) ∷ ts) m s = go (first_to (train_objects (f ∷ cs)) (outside m.roots ((f ∷ cs) ∷ ts) ts))
   where
-    go : (w : Option Wish) → CopiesFew (step_by M has w (f ∷ cs) ts m).answer
+    go : (w : Option MoveRequest) → CopiesFew ((step_by M w (f ∷ cs) ts m).reply P)
     go None = (_, (refl, omega arith))
-    go (Some w) = (_, (refl, copied_few f (wishes m.roots m.mark f cs ts) (first_filled f cs s.filled.0)))
+    go (Some w) = (_, (refl, copied_few f (requests m.roots m.mark f cs ts) (first_filled f cs s.filled.0)))
 
-module _ (M : Meaning) (law : Lawful M) (has : Remembers) where
-  copies_of : (h : History) → Use M has h → CopiesFewEach h
+module _ (M : ShapeTable) (law : Lawful M) where
+  copies_of : (h : History) → Use M h → CopiesFewEach h
   copies_of [] u = tt
   copies_of (e ∷ h) u = (go e.call u.0, copies_of h u.1)
     where
-      go : (c : Call) → e.answer ≡ (act M has c (space_of M has h)).answer → CopiesFewIfStep c e.answer
-      go (make r k a b) q = tt
-      go (access c) q = tt
-      go step q = subst CopiesFew (sym q) (step_copies M has (space_of M has h).trains (space_of M has h) (sound_of M law has h))
-      go tally q = tt
-
--- where objects lie does not depend on the set, so what is known of car numbers with one set is known with each
-step_alike : (M : Meaning) (a b : Remembers) (ts : Trains) (m : Model) → (step_on M a ts m).state ≡ (step_on M b ts m).state
-step_alike M a b [] m = refl
-step_alike M a b (t ∷ ts) m = go (first_to (train_objects t) (outside m.roots (t ∷ ts) ts)) t
-  where
-    go : (w : Option Wish) (u : Train) → (step_by M a w u ts m).state ≡ (step_by M b w u ts m).state
-    go None u = refl
-    go (Some w) [] = refl
-    go (Some w) (f ∷ cs) = refl
-
-act_alike : (M : Meaning) (a b : Remembers) (c : Call) (m : Model) → (act M a c m).state ≡ (act M b c m).state
-act_alike M a b (make r k x y) m = refl
-act_alike M a b (access c) m = refl
-act_alike M a b step m = step_alike M a b m.trains m
-act_alike M a b tally m = refl
-
-space_alike : (M : Meaning) (a b : Remembers) (h : History) → space_of M a h ≡ space_of M b h
-space_alike M a b [] = refl
-space_alike M a b (e ∷ h) = act_alike M a b e.call (space_of M a h) ∙ ap (λ m. (act M b e.call m).state) (space_alike M a b h)
+      go : (c : Call) → e.reply ≡ (act M c (space_of M h)).reply e.pairs → CopiesFewIfStep c e.reply
+      go (Make r k a b) q = tt
+      go (Access c) q = tt
+      go Step q = subst CopiesFew (sym q) (step_copies M e.pairs (space_of M h).trains (space_of M h) (sound_of M law h))
+      go Tally q = tt
 
 pub never_fail_law : StepsNeverFail
-never_fail_law M law has h u =
-    let m = space_of M has h in
-    let s = sound_of M law has h in
+never_fail_law M law h u =
+    let m = space_of M h in
+    let s = sound_of M law h in
     let few = few_cars m.trains s.filled s.room s.few in
-    let same = space_alike M card_has has h in
-    let row = overlooked_law M law card_has card_lawful h in
+    let num = numbered_at M law h in
     record {
       stands = s;
-      below = subst (λ (n : Model). AllByRecursion (λ k. k < car_count) (numbers n.trains)) same row.below;
-      differ = subst (λ (n : Model). IsDistinct eqb (numbers n.trains)) same row.differ;
+      apart = record { below = subst (AllByRecursion (λ z. z < 64)) (row_numbers m.trains) num.0; differ = subst (IsDistinct eqb) (row_numbers m.trains) num.1 };
+      apart_in_a_step = moments_apart m m.trains s num;
       free = free_car m.trains (omega (arith, few));
       free_in_a_step = moments m m.trains s;
-      copies = copies_of M law has h u;
+      copies = copies_of M law h u;
       nothing_lost = λ x p. omega (arith, s.once x, reached_lies m s x p);
       nothing_dangles = λ x y i b f e.
           let l = inside_body (λ d. (i y : ℕ) → get_or d.refs i None ≡ Some y → 1 ≤ times y (all_objects m)) (all_objects m) x b s.refs f i y e in

@@ -5,11 +5,11 @@ use Rattle.std.specs.List.{IsDistinct, AllByRecursion}
 use Rattle.std.proofs.lemmas.Map.Keys.{IsDistinct-tail}
 use Rattle.std.proofs.lemmas.List.{map-append}
 use Rattle.std.proofs.lemmas.List.Concat.{flat_map-append}
-use Rattle.layout.specs.Meaning.{Meaning}
+use Rattle.layout.specs.ShapeTable.{ShapeTable}
 use Rattle.model.specs.Bodies.{Body}
 use Rattle.model.specs.Trains.{Obj, Car, Train, Trains, train_objects, objects, times, among, car_numbers, numbers, one_of, fits, with_object, opened, place, place_at, alter_train, alter, car_words, alter_car}
 use Rattle.model.specs.Step.{trim}
-use Rattle.model.specs.Notes.{Seat, train_seat, seat, object_slots, train_slots, slots}
+use Rattle.model.specs.Notes.{CarPlace, train_car_place, car_place, object_slots, train_slots, slots}
 use Rattle.model.proofs.Distinct.{one_of_here, one_of_there, one_of_head, one_of_apart, one_of_right, distinct_cons, distinct_head}
 use Rattle.model.proofs.Totals.{sums}
 
@@ -25,23 +25,23 @@ pub row_numbers : (ts : Trains) → car_numbers (cars_in_row ts) ≡ numbers ts
 row_numbers [] = refl
 row_numbers (t ∷ ts) = map-append (λ (c : Car). c.number) t (cars_in_row ts) ∙ ap (λ ns. car_numbers t ++ ns) (row_numbers ts)
 
-train_seat-++ : (n x : ℕ) (t u : Train) (rest : Option Seat) → train_seat n x (t ++ u) rest ≡ train_seat n x t (train_seat (n + length t) x u rest)
-train_seat-++ n x [] u rest = let e : n ≡ n + 0 = omega arith in ap (λ k. train_seat k x u rest) e
-train_seat-++ n x (c ∷ t) u rest = go (among x c.objects) (train_seat-++ (n + 1) x t u rest)
+train_car_place-++ : (n x : ℕ) (t u : Train) (rest : Option CarPlace) → train_car_place n x (t ++ u) rest ≡ train_car_place n x t (train_car_place (n + length t) x u rest)
+train_car_place-++ n x [] u rest = let e : n ≡ n + 0 = omega arith in ap (λ k. train_car_place k x u rest) e
+train_car_place-++ n x (c ∷ t) u rest = go (among x c.objects) (train_car_place-++ (n + 1) x t u rest)
   where
-    go : (b : Bool) → train_seat (n + 1) x (t ++ u) rest ≡ train_seat (n + 1) x t (train_seat (n + 1 + length t) x u rest)
-        → ◌≡◌ {A = Option Seat} (cond b (Some (record { order = n; number = c.number })) (train_seat (n + 1) x (t ++ u) rest))
-        (cond b (Some (record { order = n; number = c.number })) (train_seat (n + 1) x t (train_seat (n + length (c ∷ t)) x u rest)))
+    go : (b : Bool) → train_car_place (n + 1) x (t ++ u) rest ≡ train_car_place (n + 1) x t (train_car_place (n + 1 + length t) x u rest)
+        → ◌≡◌ {A = Option CarPlace} (cond b (Some (record { order = n; number = c.number })) (train_car_place (n + 1) x (t ++ u) rest))
+        (cond b (Some (record { order = n; number = c.number })) (train_car_place (n + 1) x t (train_car_place (n + length (c ∷ t)) x u rest)))
     go true e = refl
     go false e =
         let k : n + 1 + length t ≡ n + length (c ∷ t) = omega arith in
-        e ∙ ap (λ j. train_seat (n + 1) x t (train_seat j x u rest)) k
+        e ∙ ap (λ j. train_car_place (n + 1) x t (train_car_place j x u rest)) k
 
-pub row_seat : (n x : ℕ) (ts : Trains) → seat n x ts ≡ train_seat n x (cars_in_row ts) None
-row_seat n x [] = refl
-row_seat n x (t ∷ ts) = ap (train_seat n x t) (row_seat (n + length t) x ts) ∙ sym (train_seat-++ n x t (cars_in_row ts) None)
+pub row_car_place : (n x : ℕ) (ts : Trains) → car_place n x ts ≡ train_car_place n x (cars_in_row ts) None
+row_car_place n x [] = refl
+row_car_place n x (t ∷ ts) = ap (train_car_place n x t) (row_car_place (n + length t) x ts) ∙ sym (train_car_place-++ n x t (cars_in_row ts) None)
 
-train_slots-++ : (M : Meaning) (n : ℕ) (t u : Train) → train_slots M n (t ++ u) ≡ train_slots M n t ++ train_slots M (n + length t) u
+train_slots-++ : (M : ShapeTable) (n : ℕ) (t u : Train) → train_slots M n (t ++ u) ≡ train_slots M n t ++ train_slots M (n + length t) u
 train_slots-++ M n [] u = let e : n ≡ n + 0 = omega arith in ap (λ k. train_slots M k u) e
 train_slots-++ M n (c ∷ t) u =
     let k : n + 1 + length t ≡ n + length (c ∷ t) = omega arith in
@@ -49,7 +49,7 @@ train_slots-++ M n (c ∷ t) u =
     ap (λ ss. A ++ ss) (train_slots-++ M (n + 1) t u ∙ ap (λ j. train_slots M (n + 1) t ++ train_slots M j u) k)
     ∙ sym (append_assoc A (train_slots M (n + 1) t) (train_slots M (n + length (c ∷ t)) u))
 
-pub row_slots : (M : Meaning) (n : ℕ) (ts : Trains) → slots M n ts ≡ train_slots M n (cars_in_row ts)
+pub row_slots : (M : ShapeTable) (n : ℕ) (ts : Trains) → slots M n ts ≡ train_slots M n (cars_in_row ts)
 row_slots M n [] = refl
 row_slots M n (t ∷ ts) = ap (λ ss. train_slots M n t ++ ss) (row_slots M (n + length t) ts) ∙ sym (train_slots-++ M n t (cars_in_row ts))
 
@@ -140,43 +140,43 @@ pub alter-numbers : (x : ℕ) (g : Body → Body) (t : Train) → car_numbers (a
 alter-numbers x g [] = refl
 alter-numbers x g (c ∷ t) = ap (λ (ns : List ℕ). c.number ∷ ns) (alter-numbers x g t)
 
--- Where a seat is found.
+-- Where a place is found.
 
-module _ (y : ℕ) (d : Seat) where
-  pub seat_order : (n : ℕ) (t : Train) → train_seat n y t None ≡ Some d → n ≤ d.order
-  seat_order n [] e = let z : ◌≡◌ {A = ℕ} 0 1 = cc in absurd (omega arith)
-  seat_order n (c ∷ t) e = go (seat_order (n + 1) t) (among y c.objects) e
+module _ (y : ℕ) (d : CarPlace) where
+  pub car_place_order : (n : ℕ) (t : Train) → train_car_place n y t None ≡ Some d → n ≤ d.order
+  car_place_order n [] e = let z : ◌≡◌ {A = ℕ} 0 1 = cc in absurd (omega arith)
+  car_place_order n (c ∷ t) e = go (car_place_order (n + 1) t) (among y c.objects) e
     where
-      go : (train_seat (n + 1) y t None ≡ Some d → n + 1 ≤ d.order) → (b : Bool)
-          → ◌≡◌ {A = Option Seat} (cond b (Some (record { order = n; number = c.number })) (train_seat (n + 1) y t None)) (Some d) → n ≤ d.order
-      go more true q = let same : record { order = n; number = c.number } ≡ d = cc in subst (λ (v : Seat). n ≤ v.order) same (omega arith)
+      go : (train_car_place (n + 1) y t None ≡ Some d → n + 1 ≤ d.order) → (b : Bool)
+          → ◌≡◌ {A = Option CarPlace} (cond b (Some (record { order = n; number = c.number })) (train_car_place (n + 1) y t None)) (Some d) → n ≤ d.order
+      go more true q = let same : record { order = n; number = c.number } ≡ d = cc in subst (λ (v : CarPlace). n ≤ v.order) same (omega arith)
       go more false q = omega (arith, more q)
 
-  pub seat-number : (n : ℕ) (t : Train) → train_seat n y t None ≡ Some d → one_of d.number (car_numbers t) ≡ true
-  seat-number n [] e = let z : ◌≡◌ {A = ℕ} 0 1 = cc in absurd (omega arith)
-  seat-number n (c ∷ t) e = go (seat-number (n + 1) t) (among y c.objects) e
+  pub car_place-number : (n : ℕ) (t : Train) → train_car_place n y t None ≡ Some d → one_of d.number (car_numbers t) ≡ true
+  car_place-number n [] e = let z : ◌≡◌ {A = ℕ} 0 1 = cc in absurd (omega arith)
+  car_place-number n (c ∷ t) e = go (car_place-number (n + 1) t) (among y c.objects) e
     where
-      go : (train_seat (n + 1) y t None ≡ Some d → one_of d.number (car_numbers t) ≡ true) → (b : Bool)
-          → ◌≡◌ {A = Option Seat} (cond b (Some (record { order = n; number = c.number })) (train_seat (n + 1) y t None)) (Some d) → one_of d.number (c.number ∷ car_numbers t) ≡ true
+      go : (train_car_place (n + 1) y t None ≡ Some d → one_of d.number (car_numbers t) ≡ true) → (b : Bool)
+          → ◌≡◌ {A = Option CarPlace} (cond b (Some (record { order = n; number = c.number })) (train_car_place (n + 1) y t None)) (Some d) → one_of d.number (c.number ∷ car_numbers t) ≡ true
       go more true q =
           let same : record { order = n; number = c.number } ≡ d = cc in
-          subst (λ (v : Seat). one_of v.number (c.number ∷ car_numbers t) ≡ true) same (one_of_here c.number (car_numbers t))
+          subst (λ (v : CarPlace). one_of v.number (c.number ∷ car_numbers t) ≡ true) same (one_of_here c.number (car_numbers t))
       go more false q = one_of_there d.number c.number (car_numbers t) (more q)
 
-  pub seat_lies : (n : ℕ) (t : Train) → train_seat n y t None ≡ Some d → 1 ≤ times y (train_objects t)
-  seat_lies n [] e = let z : ◌≡◌ {A = ℕ} 0 1 = cc in absurd (omega arith)
-  seat_lies n (c ∷ t) e = go (seat_lies (n + 1) t) (among y c.objects) refl e
+  pub car_place_lies : (n : ℕ) (t : Train) → train_car_place n y t None ≡ Some d → 1 ≤ times y (train_objects t)
+  car_place_lies n [] e = let z : ◌≡◌ {A = ℕ} 0 1 = cc in absurd (omega arith)
+  car_place_lies n (c ∷ t) e = go (car_place_lies (n + 1) t) (among y c.objects) refl e
     where
-      go : (train_seat (n + 1) y t None ≡ Some d → 1 ≤ times y (train_objects t)) → (b : Bool) → among y c.objects ≡ b
-          → ◌≡◌ {A = Option Seat} (cond b (Some (record { order = n; number = c.number })) (train_seat (n + 1) y t None)) (Some d) → 1 ≤ times y (train_objects (c ∷ t))
+      go : (train_car_place (n + 1) y t None ≡ Some d → 1 ≤ times y (train_objects t)) → (b : Bool) → among y c.objects ≡ b
+          → ◌≡◌ {A = Option CarPlace} (cond b (Some (record { order = n; number = c.number })) (train_car_place (n + 1) y t None)) (Some d) → 1 ≤ times y (train_objects (c ∷ t))
       go more true a q = omega (arith, sums, ltb-true 0 (times y c.objects) a)
       go more false a q = omega (arith, sums, more q)
 
-pub seat_found : (n y : ℕ) (t : Train) → 1 ≤ times y (train_objects t) → (d : Seat) × (train_seat n y t None ≡ Some d)
-seat_found n y [] h = absurd (omega arith)
-seat_found n y (c ∷ t) h = go (seat_found (n + 1) y t) (among y c.objects) refl
+pub car_place_found : (n y : ℕ) (t : Train) → 1 ≤ times y (train_objects t) → (d : CarPlace) × (train_car_place n y t None ≡ Some d)
+car_place_found n y [] h = absurd (omega arith)
+car_place_found n y (c ∷ t) h = go (car_place_found (n + 1) y t) (among y c.objects) refl
   where
-    go : (1 ≤ times y (train_objects t) → (d : Seat) × (train_seat (n + 1) y t None ≡ Some d)) → (b : Bool) → among y c.objects ≡ b
-        → (d : Seat) × (◌≡◌ {A = Option Seat} (cond b (Some (record { order = n; number = c.number })) (train_seat (n + 1) y t None)) (Some d))
+    go : (1 ≤ times y (train_objects t) → (d : CarPlace) × (train_car_place (n + 1) y t None ≡ Some d)) → (b : Bool) → among y c.objects ≡ b
+        → (d : CarPlace) × (◌≡◌ {A = Option CarPlace} (cond b (Some (record { order = n; number = c.number })) (train_car_place (n + 1) y t None)) (Some d))
     go more true a = (record { order = n; number = c.number }, refl)
     go more false a = more (omega (arith, sums, ltb-false 0 (times y c.objects) a))

@@ -1,20 +1,24 @@
 -- The space and the plain graph go together.
-use Rattle.std.proofs.Common.{◌≡◌, ℕ, zero, suc, ◌+◌, ◌<◌, ◌≤◌, Bool, true, false, cond, eqb, List, [], ◌∷◌, ◌++◌, length, get_or, set, Some, None, Option, sym, refl, ap, ◌∙◌, subst, ap₂, arith, length-append, not}
+use Rattle.std.proofs.Common.{◌≡◌, ℕ, zero, suc, ◌+◌, ◌≤◌, Bool, true, false, cond, eqb, List, [], ◌∷◌, ◌++◌, length, get_or, set, Some, None, Option, sym, refl, ap, ◌∙◌, subst, ap₂, arith, length-append, not}
 use Rattle.std.proofs.lemmas.Bool.{eqb-true, eqb-false, leb-false, lt-leb, both_ways}
 use Rattle.std.specs.List.{AllByRecursion}
 use Rattle.std.specs.Prelude.{slice_get, option_map, find}
-use Rattle.calls.specs.declared.answer.Refusal.TheVariants.{Full as full}
-use Rattle.layout.specs.Meaning.{Meaning, Lawful}
-use Rattle.remembered.specs.Meaning.{Meaning as Remembers}
-use Rattle.model.specs.Calls.{Call, make, access, step, tally, Access, link, follow, drop, put, lift, get, words, same, refused, Answer, History, is_full}
-use Rattle.model.specs.Bodies.{Body, Roots, held, fresh, size, with_ref, with_value, is_root, Effect, leave, hold, point, store, Reply, object_of, reply_of, make_outcome}
+use Rattle.calls.specs.declared.answer.Refusal.TheVariants.{Shape as NoShape, Full}
+use Rattle.layout.specs.ShapeTable.{ShapeTable, Lawful}
+use Rattle.remembered.specs.Updates.{Pairs}
+use Rattle.calls.specs.declared.call.Call.{Call}
+use Rattle.calls.specs.declared.call.Call.TheVariants.{Make, Access, Step, Tally}
+use Rattle.calls.specs.declared.call.Access.{Access as OnRoots}
+use Rattle.calls.specs.declared.call.Access.TheVariants.{Link, Follow, Drop, Put, Lift, Get, Words, Same}
+use Rattle.model.specs.Calls.{Reply, refused, done, History, is_full}
+use Rattle.model.specs.Bodies.{Body, Roots, held, shape_of, new_body, size, with_ref, with_value, is_root, Effect, leave, hold, point, store, object_of, Response, response, Outcome, outcome, make_outcome}
 use Rattle.model.specs.Plain.{Graph, no_entries, alter_entry, with_effect, plain, graph_of, with_entry}
 use Rattle.model.specs.Trains.{Obj, Train, Trains, train_objects, objects, words_in_use, times, inside, alter, alter_object, arrival, numbers, lowest_free, capacity}
-use Rattle.model.specs.Claims.{Wish}
+use Rattle.model.specs.Claims.{MoveRequest}
 use Rattle.model.specs.Step.{first_to, outside}
 use Rattle.model.specs.Space.{Model, opening, all_objects, made_by, has_room, space_with, step_by, step_on, act, space_of, Use}
 use Rattle.model.specs.Reach.{by_root, by_ref, GraphReaches, SpaceReaches}
-use Rattle.model.specs.Laws.{PlainAnswer, PlainAnswers, FullExactly, FullExactlyWhen, SameReach, AnswersAreThePlainGraphs}
+use Rattle.model.specs.Laws.{PlainReply, PlainReplies, FullExactly, FullExactlyWhen, SameReach, AnswersAreThePlainGraphs}
 use Rattle.model.specs.Sound.{Sound}
 use Rattle.model.proofs.Alls.{all_right, place_at_all, all_map}
 use Rattle.model.proofs.Alters.{objects-alter, alter_all}
@@ -48,15 +52,15 @@ module _ (find other : ℕ → Option Body) (rs : Roots) (agree : (r x : ℕ) �
       go None e = refl
       go (Some x) e = ap (option_map (λ (b : Body). (x, b))) (agree r x e)
 
-  pub reply_agrees : (c : Access) → reply_of find rs c ≡ reply_of other rs c
-  reply_agrees (link r i q) = rw (object_agrees r)
-  reply_agrees (follow r q i) = rw (object_agrees q)
-  reply_agrees (drop r) = refl
-  reply_agrees (put r w v) = rw (object_agrees r)
-  reply_agrees (lift r w by) = rw (object_agrees r)
-  reply_agrees (get r w) = rw (object_agrees r)
-  reply_agrees (words r n) = rw (object_agrees r)
-  reply_agrees (same r q) = refl
+  pub reply_agrees : (c : OnRoots) → response find rs c ≡ response other rs c
+  reply_agrees (Link r i q) = rw (object_agrees r)
+  reply_agrees (Follow r q i) = rw (object_agrees q)
+  reply_agrees (Drop r) = refl
+  reply_agrees (Put r w v) = rw (object_agrees r)
+  reply_agrees (Lift r w by) = rw (object_agrees r)
+  reply_agrees (Get r w) = rw (object_agrees r)
+  reply_agrees (Words r n) = rw (object_agrees r)
+  reply_agrees (Same r q) = refl
 
 entry_front : (es : List Body) (b c : Body) (x : ℕ) → slice_get es x ≡ Some c → slice_get (es ++ (b ∷ [])) x ≡ Some c
 entry_front [] b c x e = let z : ◌≡◌ {A = ℕ} 0 1 = cc in absurd (omega arith)
@@ -97,15 +101,15 @@ twin_alter es x f o t = go (eqb x o.id) refl
 twins_alter : (es : List Body) (x : ℕ) (f : Body → Body) (ts : Trains) → AllByRecursion (Twin es) (objects ts) → AllByRecursion (Twin (alter_entry x f es)) (objects (alter x f ts))
 twins_alter es x f ts a = subst (AllByRecursion (Twin (alter_entry x f es))) (sym (objects-alter x f ts)) (alter_all x f (Twin es) (Twin (alter_entry x f es)) (twin_alter es x f) (objects ts) a)
 
-effect_sim : (M : Meaning) (e : Effect) (g : Graph) (m : Model) → Sim g m → Sim (with_effect e g) (space_with M e m)
-effect_sim M leave g m s = s
-effect_sim M (hold r h) g m s = record { roots = ap (λ rs. set rs r h) s.roots; made = s.made; twins = s.twins }
-effect_sim M (point x i h) g m s = record {
+effect_sim : (e : Effect) (g : Graph) (m : Model) → Sim g m → Sim (with_effect e g) (space_with e m)
+effect_sim leave g m s = s
+effect_sim (hold r h) g m s = record { roots = ap (λ rs. set rs r h) s.roots; made = s.made; twins = s.twins }
+effect_sim (point x i h) g m s = record {
   roots = s.roots;
   made = s.made ∙ sym (alter-length g.entries x (with_ref i h));
   twins = twins_alter g.entries x (with_ref i h) m.trains s.twins;
 }
-effect_sim M (store x w v) g m s = record {
+effect_sim (store x w v) g m s = record {
   roots = s.roots;
   made = s.made ∙ sym (alter-length g.entries x (with_value w v));
   twins = twins_alter g.entries x (with_value w v) m.trains s.twins;
@@ -123,99 +127,109 @@ made_sim b r g m s =
           (ap (slice_get (g.entries ++ (b ∷ []))) s.made ∙ entry_last g.entries b);
     }
 
--- the answer to a call is the graph's, and the graph goes with the space after it, told only whether the answer was full
-pub record Together (M : Meaning) (has : Remembers) (c : Call) (a : Answer) (g : Graph) (m : Model) : Type 0 where
-  pub sim : Sim (plain M (is_full a) c g).state (act M has c m).state
-  pub answer : PlainAnswer M c a g
-  pub full_when : FullExactly M (record { call = c; answer = a }) m
+-- the reply to a call is the graph's, and the graph goes with the space after it, told only whether the reply was full
+pub record Together (M : ShapeTable) (c : Call) (P : Pairs) (p : Reply) (g : Graph) (m : Model) : Type 0 where
+  pub sim : Sim (plain M (is_full p) c g).state (act M c m).state
+  pub reply : PlainReply M c p g
+  pub full_when : FullExactly M (record { call = c; reply = p; pairs = P }) m
 
-no_make : (M : Meaning) (c : Call) (a : Answer) (m : Model) → ((r k x y : ℕ) → c ≡ make r k x y → ⊥) → FullExactly M (record { call = c; answer = a }) m
-no_make M c a m h = record { only = λ r k x y e q. absurd (h r k x y e); always = λ r k x y e p q l. absurd (h r k x y e) }
+no_make : (M : ShapeTable) (c : Call) (P : Pairs) (p : Reply) (m : Model) → ((r k x y : ℕ) → c ≡ Make r k x y → ⊥) → FullExactly M (record { call = c; reply = p; pairs = P }) m
+no_make M c P p m h = record { only = λ r k x y e q. absurd (h r k x y e); always = λ r k x y b e u v l. absurd (h r k x y e) }
 
-abbrev Made : Meaning → (a b c : Bool) → (r k x y : ℕ) → Graph → Model → Type 0
-Made M a b c r k x y g m =
-    let o = make_outcome a b (not c) m (made_by (fresh M k x y) r m) in
-    let p = make_outcome a b (is_full o.answer) g (with_entry (fresh M k x y) r g) in
-    Sim p.state o.state × (o.answer ≡ p.answer) × (o.answer ≡ refused full → c ≡ false) × (a ≡ true → b ≡ true → c ≡ false → o.answer ≡ refused full)
+abbrev Made : (ok : Bool) (body : Option Body) (r : ℕ) → Graph → Model → Type 0
+Made ok body r g m =
+    let o = make_outcome ok body (λ x. not (has_room x m)) m (λ x. made_by x r m) in
+    let p = make_outcome ok body (λ x. is_full o.reply) g (λ x. with_entry x r g) in
+    Sim p.state o.state × (o.reply ≡ p.reply) × (o.reply ≡ refused Full → (x : Body) × (body ≡ Some x) × (has_room x m ≡ false))
+    × ((x : Body) → ok ≡ true → body ≡ Some x → has_room x m ≡ false → o.reply ≡ refused Full)
 
-made : (M : Meaning) (a b c : Bool) (r k x y : ℕ) (g : Graph) (m : Model) → Sim g m → Made M a b c r k x y g m
-made M false b c r k x y g m s = (s, refl, (λ e. let z : ◌≡◌ {A = ℕ} 0 1 = cc in absurd (omega arith)), λ p q l. absurd (both_ways false refl p))
-made M true false c r k x y g m s = (s, refl, (λ e. let z : ◌≡◌ {A = ℕ} 0 1 = cc in absurd (omega arith)), λ p q l. absurd (both_ways false refl q))
-made M true true false r k x y g m s = (s, refl, (λ e. refl), λ p q l. refl)
-made M true true true r k x y g m s =
-    (made_sim (fresh M k x y) r g m s, refl, (λ e. let z : ◌≡◌ {A = ℕ} 0 1 = cc in absurd (omega arith)), λ p q l. absurd (both_ways true l refl))
+no_shape : refused NoShape ≡ refused Full → ⊥
+no_shape e = both_ways false refl (ap is_full e)
 
-step_sim : (M : Meaning) (has : Remembers) (g : Graph) (ts : Trains) (m : Model) → Sim g m → m.trains ≡ ts → Sim g (step_on M has ts m).state
-step_sim M has g [] m s e = s
-step_sim M has g (t ∷ ts) m s e = go (first_to (train_objects t) (outside m.roots (t ∷ ts) ts)) t (subst (λ us. AllByRecursion (Twin g.entries) (objects us)) e s.twins)
+none_some : {x : Body} → None ≡ Some x → ⊥
+none_some e = let z : ◌≡◌ {A = ℕ} 0 1 = cc in omega arith
+
+made : (ok : Bool) (body : Option Body) (r : ℕ) (g : Graph) (m : Model) → Sim g m → Made ok body r g m
+made false body r g m s = (s, refl, (λ e. absurd (both_ways false refl (ap is_full e))), λ x p q l. absurd (both_ways false refl p))
+made true None r g m s = (s, refl, (λ e. absurd (no_shape e)), λ x p q l. absurd (none_some q))
+made true (Some b) r g m s = go (has_room b m) refl
   where
-    go : (w : Option Wish) (u : Train) → AllByRecursion (Twin g.entries) (objects (u ∷ ts)) → Sim g (step_by M has w u ts m).state
+    go : (v : Bool) → has_room b m ≡ v →
+        let o : Outcome Model = cond (not v) (outcome m (refused Full)) (outcome (made_by b r m) done) in
+        let p : Outcome Graph = cond (is_full o.reply) (outcome g (refused Full)) (outcome (with_entry b r g) done) in
+        Sim p.state o.state × (o.reply ≡ p.reply) × (o.reply ≡ refused Full → (x : Body) × (Some b ≡ Some x) × (has_room x m ≡ false))
+        × ((x : Body) → true ≡ true → Some b ≡ Some x → has_room x m ≡ false → o.reply ≡ refused Full)
+    go false e = (s, refl, (λ q. (b, refl, e)), λ x p q l. refl)
+    go true e = (
+      made_sim b r g m s,
+      refl,
+      (λ q. absurd (both_ways false refl (ap is_full q))),
+      λ x p q l. let i : b ≡ x = cc in absurd (both_ways (has_room x m) l (subst (λ y. has_room y m ≡ true) i e)),
+    )
+
+step_sim : (M : ShapeTable) (g : Graph) (ts : Trains) (m : Model) → Sim g m → m.trains ≡ ts → Sim g (step_on M ts m).state
+step_sim M g [] m s e = s
+step_sim M g (t ∷ ts) m s e = go (first_to (train_objects t) (outside m.roots (t ∷ ts) ts)) t (subst (λ us. AllByRecursion (Twin g.entries) (objects us)) e s.twins)
+  where
+    go : (w : Option MoveRequest) (u : Train) → AllByRecursion (Twin g.entries) (objects (u ∷ ts)) → Sim g (step_by M w u ts m).state
     go None u a = record { roots = s.roots; made = s.made; twins = all_right (Twin g.entries) (train_objects u) (objects ts) a }
     go (Some w) [] a = record { roots = s.roots; made = s.made; twins = a }
     go (Some w) (f ∷ cs) a = record { roots = s.roots; made = s.made; twins = step_all (Twin g.entries) f cs ts m a }
 
-module _ (M : Meaning) (has : Remembers) where
-  together_make : (r k x y : ℕ) (g : Graph) (m : Model) → Sim g m → Together M has (make r k x y) (act M has (make r k x y) m).answer g m
+module _ (M : ShapeTable) (P : Pairs) where
+  together_make : (r k x y : ℕ) (g : Graph) (m : Model) → Sim g m → Together M (Make r k x y) P ((act M (Make r k x y) m).reply P) g m
   together_make r k x y g m s =
-      let t = made M (is_root r) (M.admits k x y) (has_room (fresh M k x y) m) r k x y g m s in
-      let wide = words_in_use m.trains + size (fresh M k x y) in
+      let body = new_body M (shape_of k x y) in
+      let t = made (is_root r) body r g m s in
       record {
         sim = t.0;
-        answer = t.1;
+        reply = t.1;
         full_when = record {
           only = λ r' k' x' y' e q.
-              let ek : k ≡ k' = cc in
-              let ex : x ≡ x' = cc in
-              let ey : y ≡ y' = cc in
-              let l : capacity < wide = leb-false wide capacity (t.2 q) in
-              let same : size (fresh M k x y) ≡ size (fresh M k' x' y') = cc in
-              omega (arith, l, same);
-          always = λ r' k' x' y' e p q l.
-              let er : r ≡ r' = cc in
-              let ek : k ≡ k' = cc in
-              let ex : x ≡ x' = cc in
-              let ey : y ≡ y' = cc in
-              let same : size (fresh M k x y) ≡ size (fresh M k' x' y') = cc in
-              let p' : is_root r ≡ true = cc in
-              let q' : M.admits k x y ≡ true = cc in
-              t.3 p' q' (lt-leb wide capacity (omega (arith, l, same)));
+              let same : new_body M (shape_of k' x' y') ≡ body = cc in
+              let u = t.2 q in
+              (u.0, (same ∙ u.1), leb-false (words_in_use m.trains + size u.0) capacity u.2);
+          always = λ r' k' x' y' b e p q l.
+              let er : is_root r ≡ true = cc in
+              let same : body ≡ Some b = cc in
+              t.3 b er same (lt-leb (words_in_use m.trains + size b) capacity l);
         };
       }
 
-  together_access : (c : Access) (g : Graph) (m : Model) → Sim g m → Sound m → (a : Answer) → a ≡ (act M has (access c) m).answer → Together M has (access c) a g m
-  together_access c g m s ok a e =
+  together_access : (c : OnRoots) (g : Graph) (m : Model) → Sim g m → Sound m → (p : Reply) → p ≡ (act M (Access c) m).reply P → Together M (Access c) P p g m
+  together_access c g m s ok p e =
       let es = g.entries in
-      let agree : reply_of (inside (all_objects m)) m.roots c ≡ reply_of (slice_get es) m.roots c =
+      let agree : response (inside (all_objects m)) m.roots c ≡ response (slice_get es) m.roots c =
       reply_agrees (inside (all_objects m)) (slice_get es) m.roots (λ r x h. inside-entry es (all_objects m) x s.twins (ok.roots r x h)) c in
-      let alike : reply_of (inside (all_objects m)) m.roots c ≡ reply_of (slice_get es) g.roots c = agree ∙ ap (λ rs. reply_of (slice_get es) rs c) s.roots in
+      let alike : response (inside (all_objects m)) m.roots c ≡ response (slice_get es) g.roots c = agree ∙ ap (λ rs. response (slice_get es) rs c) s.roots in
       record {
-        sim = subst (λ (p : Reply). Sim (with_effect p.effect g) (space_with M (reply_of (inside (all_objects m)) m.roots c).effect m)) alike
-            (effect_sim M (reply_of (inside (all_objects m)) m.roots c).effect g m s);
-        answer = e ∙ ap (λ (p : Reply). p.answer) alike;
-        full_when = no_make M (access c) a m (λ r k x y q. let z : ◌≡◌ {A = ℕ} 0 1 = cc in omega arith);
+        sim = subst (λ (q : Response). Sim (with_effect q.effect g) (space_with (response (inside (all_objects m)) m.roots c).effect m)) alike
+            (effect_sim (response (inside (all_objects m)) m.roots c).effect g m s);
+        reply = e ∙ ap (λ (q : Response). q.reply) alike;
+        full_when = no_make M (Access c) P p m (λ r k x y q. let z : ◌≡◌ {A = ℕ} 0 1 = cc in omega arith);
       }
 
-  together : (c : Call) (a : Answer) (g : Graph) (m : Model) → Sim g m → Sound m → a ≡ (act M has c m).answer → Together M has c a g m
-  together (make r k x y) a g m s ok e = subst (λ b. Together M has (make r k x y) b g m) (sym e) (together_make r k x y g m s)
-  together (access c) a g m s ok e = together_access c g m s ok a e
-  together step a g m s ok e = record { sim = step_sim M has g m.trains m s refl; answer = tt; full_when = no_make M step a m (λ r k x y q. let z : ◌≡◌ {A = ℕ} 0 1 = cc in omega arith) }
-  together tally a g m s ok e = record { sim = s; answer = tt; full_when = no_make M tally a m (λ r k x y q. let z : ◌≡◌ {A = ℕ} 0 1 = cc in omega arith) }
+  together : (c : Call) (p : Reply) (g : Graph) (m : Model) → Sim g m → Sound m → p ≡ (act M c m).reply P → Together M c P p g m
+  together (Make r k x y) p g m s ok e = subst (λ q. Together M (Make r k x y) P q g m) (sym e) (together_make r k x y g m s)
+  together (Access c) p g m s ok e = together_access c g m s ok p e
+  together Step p g m s ok e = record { sim = step_sim M g m.trains m s refl; reply = tt; full_when = no_make M Step P p m (λ r k x y q. let z : ◌≡◌ {A = ℕ} 0 1 = cc in omega arith) }
+  together Tally p g m s ok e = record { sim = s; reply = tt; full_when = no_make M Tally P p m (λ r k x y q. let z : ◌≡◌ {A = ℕ} 0 1 = cc in omega arith) }
 
 opening_sim : Sim no_entries opening
 opening_sim = record { roots = refl; made = refl; twins = tt }
 
-module _ (M : Meaning) (law : Lawful M) (has : Remembers) where
-  pub sim_of : (h : History) → Use M has h → Sim (graph_of M h) (space_of M has h)
+module _ (M : ShapeTable) (law : Lawful M) where
+  pub sim_of : (h : History) → Use M h → Sim (graph_of M h) (space_of M h)
   sim_of [] u = opening_sim
-  sim_of (e ∷ h) u = (together M has e.call e.answer (graph_of M h) (space_of M has h) (sim_of h u.1) (sound_of M law has h) u.0).sim
+  sim_of (e ∷ h) u = (together M e.pairs e.call e.reply (graph_of M h) (space_of M h) (sim_of h u.1) (sound_of M law h) u.0).sim
 
-  answers_of : (h : History) → Use M has h → PlainAnswers M h
-  answers_of [] u = tt
-  answers_of (e ∷ h) u = ((together M has e.call e.answer (graph_of M h) (space_of M has h) (sim_of h u.1) (sound_of M law has h) u.0).answer, answers_of h u.1)
+  replies_of : (h : History) → Use M h → PlainReplies M h
+  replies_of [] u = tt
+  replies_of (e ∷ h) u = ((together M e.pairs e.call e.reply (graph_of M h) (space_of M h) (sim_of h u.1) (sound_of M law h) u.0).reply, replies_of h u.1)
 
-  full_of : (h : History) → Use M has h → FullExactlyWhen M has h
+  full_of : (h : History) → Use M h → FullExactlyWhen M h
   full_of [] u = tt
-  full_of (e ∷ h) u = ((together M has e.call e.answer (graph_of M h) (space_of M has h) (sim_of h u.1) (sound_of M law has h) u.0).full_when, full_of h u.1)
+  full_of (e ∷ h) u = ((together M e.pairs e.call e.reply (graph_of M h) (space_of M h) (sim_of h u.1) (sound_of M law h) u.0).full_when, full_of h u.1)
 
 -- what is reached lies in a car
 pub reached_lies : (m : Model) → Sound m → (x : ℕ) → SpaceReaches m x → 1 ≤ times x (all_objects m)
@@ -245,8 +259,8 @@ module _ (g : Graph) (m : Model) (s : Sound m) (t : Sim g m) where
   }
 
 pub graph_law : AnswersAreThePlainGraphs
-graph_law M law has h u = record {
-  answers = answers_of M law has h u;
-  full_when = full_of M law has h u;
-  same = same_reach (graph_of M h) (space_of M has h) (sound_of M law has h) (sim_of M law has h u);
+graph_law M law h u = record {
+  replies = replies_of M law h u;
+  full_when = full_of M law h u;
+  same = same_reach (graph_of M h) (space_of M h) (sound_of M law h) (sim_of M law h u);
 }

@@ -3,7 +3,7 @@ use Rattle.std.proofs.Common.{◌∙◌, ◌≡◌, ℕ, zero, suc, ◌+◌, Boo
 use Rattle.std.proofs.lemmas.List.Sums.{sum_by-append, sum_by-cons}
 use Rattle.std.proofs.lemmas.List.{map-append}
 use Rattle.model.specs.Trains.{Obj, Train, Trains, train_objects, objects, place, place_at, fits, with_object, opened, numbers, lowest_free}
-use Rattle.model.specs.Claims.{Taken, take_out, in_front, visit, close, claim, Wish, Claim, all_to, claims}
+use Rattle.model.specs.Claims.{Taken, take_out, in_front, scan, cheney, claim, MoveRequest, Claim, all_to, claims}
 use Rattle.model.specs.Step.{claimed, place_all, trim}
 
 -- a sum over a list made of others
@@ -20,7 +20,7 @@ claimed-all_to : (k : ℕ) (os : List Obj) → claimed (all_to k os) ≡ os
 claimed-all_to k [] = refl
 claimed-all_to k (o ∷ os) = ap (λ ps. o ∷ ps) (claimed-all_to k os)
 
--- the objects claimed for one wish, then those for the others
+-- the objects claimed for one request, then those for the others
 pub claimed_row : (k : ℕ) (os : List Obj) (row : List Claim) → claimed (all_to k os ++ row) ≡ os ++ claimed row
 claimed_row k os row = map-append (λ (c : Claim). c.object) (all_to k os) row ∙ ap (λ ps. ps ++ claimed row) (claimed-all_to k os)
 
@@ -41,27 +41,27 @@ module _ (f : Obj → ℕ) where
   then_total : (os : List Obj) (t : Taken Obj) → both (in_front os t) ≡ sum_by f os + both t
   then_total os t = omega (arith, sums)
 
-  pub visit-total : (rs : List (Option ℕ)) (left : List Obj) → both (visit rs left) ≡ sum_by f left
-  visit-total [] left = omega arith
-  visit-total (None ∷ rs) left = visit-total rs left
-  visit-total (Some x ∷ rs) left =
+  pub scan-total : (rs : List (Option ℕ)) (left : List Obj) → both (scan rs left) ≡ sum_by f left
+  scan-total [] left = omega arith
+  scan-total (None ∷ rs) left = scan-total rs left
+  scan-total (Some x ∷ rs) left =
       let t = take_out x left in
-      omega (arith, then_total t.taken (visit rs t.left), visit-total rs t.left, take_out-total x left)
+      omega (arith, then_total t.taken (scan rs t.left), scan-total rs t.left, take_out-total x left)
 
-  pub close-total : (n : ℕ) (q left : List Obj) → both (close n q left) ≡ sum_by f left
-  close-total zero q left = omega arith
-  close-total (suc n) [] left = omega arith
-  close-total (suc n) (o ∷ q) left =
-      let t = visit o.body.refs left in
-      omega (arith, then_total t.taken (close n (q ++ t.taken) t.left), close-total n (q ++ t.taken) t.left, visit-total o.body.refs left)
+  pub cheney-total : (n : ℕ) (q left : List Obj) → both (cheney n q left) ≡ sum_by f left
+  cheney-total zero q left = omega arith
+  cheney-total (suc n) [] left = omega arith
+  cheney-total (suc n) (o ∷ q) left =
+      let t = scan o.body.refs left in
+      omega (arith, then_total t.taken (cheney n (q ++ t.taken) t.left), cheney-total n (q ++ t.taken) t.left, scan-total o.body.refs left)
 
   pub claim-total : (x : ℕ) (left : List Obj) → both (claim x left) ≡ sum_by f left
   claim-total x left =
       let t = take_out x left in
-      omega (arith, then_total t.taken (close (length left) t.taken t.left), close-total (length left) t.taken t.left, take_out-total x left)
+      omega (arith, then_total t.taken (cheney (length left) t.taken t.left), cheney-total (length left) t.taken t.left, take_out-total x left)
 
   -- each object of the car is claimed or left
-  pub claims-total : (ws : List Wish) (left : List Obj) → sum_by f (claimed (claims ws left).taken) + sum_by f (claims ws left).left ≡ sum_by f left
+  pub claims-total : (ws : List MoveRequest) (left : List Obj) → sum_by f (claimed (claims ws left).taken) + sum_by f (claims ws left).left ≡ sum_by f left
   claims-total [] left = omega arith
   claims-total (w ∷ ws) left =
       let t = claim w.who left in

@@ -1,17 +1,19 @@
 -- Waste stays behind: what was unreachable at a halt is never held again, and never lies in a later train than it may.
 use Rattle.std.proofs.Common.{◌≡◌, ℕ, zero, suc, pred, ◌+◌, ◌-◌, ◌≤◌, Bool, true, false, cond, eqb, List, [], ◌∷◌, ◌++◌, get_or, Some, None, Option, sym, refl, subst, arith, not}
 use Rattle.std.specs.List.{AllByRecursion}
-use Rattle.layout.specs.Meaning.{Meaning}
-use Rattle.remembered.specs.Meaning.{Meaning as Remembers}
-use Rattle.model.specs.Calls.{Call, make, access, step, tally}
-use Rattle.model.specs.Bodies.{Body, Roots, fresh, held, is_root, with_ref, with_value, Effect, leave, hold, point, store, reply_of}
+use Rattle.layout.specs.declared.Shape.{Shape}
+use Rattle.layout.specs.ShapeTable.{ShapeTable, Offsets}
+use Rattle.calls.specs.declared.call.Call.{Call}
+use Rattle.calls.specs.declared.call.Call.TheVariants.{Make, Access, Step, Tally}
+use Rattle.model.specs.Bodies.{Body, Roots, fresh, shape_of, new_body, held, is_root, with_ref, with_value, Effect, leave, hold, point, store, response}
 use Rattle.model.specs.Trains.{Obj, Car, Train, Trains, train_objects, objects, place_at, numbers, lowest_free, arrival, inside, among, alter_object, alter}
-use Rattle.model.specs.Claims.{Wish, ref_wishes, train_wishes, trains_wishes, Claim, claims}
-use Rattle.model.specs.Step.{first_to, outside, mark_wishes, wishes, place_all, mark_after, guard}
+use Rattle.model.specs.Claims.{MoveRequest, ref_requests, train_requests, trains_requests, Claim, claims}
+use Rattle.model.specs.Step.{first_to, outside, mark_requests, requests, place_all, mark_after, guard}
 use Rattle.model.specs.Space.{Model, all_objects, act, step_on, step_by, space_with, has_room, made_by}
 use Rattle.model.specs.Sound.{Points}
 use Rattle.model.proofs.Alls.{all_left, all_right, place_train_all, place_at_all, all_++}
 use Rattle.model.proofs.Alters.{objects-alter, train_alter, alter_all, set_either}
+use Rattle.model.proofs.Cars.{fresh_is}
 use Rattle.model.proofs.Effects.{Brings, brings}
 use Rattle.model.proofs.Keeps.{step_all, inside_all, make_cases, no_ref}
 use Rattle.model.proofs.WasteClaims.{Leads, Sent, Goes, claims_of, ref_sent, train_sent}
@@ -26,18 +28,18 @@ pub record Apart (G : ℕ → Type 0) (m : Model) : Type 0 where
   pub leads : AllByRecursion (Leads (Not G)) (all_objects m)
 
 -- a step only moves objects, or drops them, and leaves the roots
-module _ (P : Obj → Type 0) (M : Meaning) (has : Remembers) (m : Model) where
+module _ (P : Obj → Type 0) (M : ShapeTable) (m : Model) where
   record Moves (n : Model) : Type 0 where
     all : AllByRecursion P (all_objects n)
     roots : n.roots ≡ m.roots
     made : n.made ≡ m.made
 
-  step_by_moves : (w : Option Wish) (t : Train) (ts : Trains) → AllByRecursion P (objects (t ∷ ts)) → Moves (step_by M has w t ts m).state
+  step_by_moves : (w : Option MoveRequest) (t : Train) (ts : Trains) → AllByRecursion P (objects (t ∷ ts)) → Moves (step_by M w t ts m).state
   step_by_moves None t ts h = record { all = all_right P (train_objects t) (objects ts) h; roots = refl; made = refl }
   step_by_moves (Some w) [] ts h = record { all = h; roots = refl; made = refl }
   step_by_moves (Some w) (f ∷ cs) ts h = record { all = step_all P f cs ts m h; roots = refl; made = refl }
 
-  step_moves : (ts : Trains) → m.trains ≡ ts → AllByRecursion P (all_objects m) → Moves (step_on M has ts m).state
+  step_moves : (ts : Trains) → m.trains ≡ ts → AllByRecursion P (all_objects m) → Moves (step_on M ts m).state
   step_moves [] e h = record { all = h; roots = refl; made = refl }
   step_moves (t ∷ ts) e h = step_by_moves (first_to (train_objects t) (outside m.roots (t ∷ ts) ts)) t ts (subst (λ (u : Trains). AllByRecursion P (objects u)) e h)
 
@@ -60,37 +62,37 @@ module _ (G : ℕ → Type 0) where
       → AllByRecursion (Leads (Not G)) (objects ts) → AllByRecursion (Leads (Not G)) (objects (alter x f ts))
   leads_alter x f ts one h = subst (AllByRecursion (Leads (Not G))) (sym (objects-alter x f ts)) (alter_all x f (Leads (Not G)) (Leads (Not G)) one (objects ts) h)
 
-  apart_with : (M : Meaning) (m : Model) (e : Effect) → Brings (inside (all_objects m)) m.roots (Not G) e → Apart G m → Apart G (space_with M e m)
-  apart_with M m leave b a = a
-  apart_with M m (hold r h) b a = record { new = a.new; roots = λ q x e. set_either m.roots r q h x (Not G x) (a.roots q x) (b x) e; leads = a.leads }
-  apart_with M m (point x i h) b a = record { new = a.new; roots = a.roots; leads = leads_alter x (with_ref i h) m.trains (ref_leads x i h b.1) a.leads }
-  apart_with M m (store x w v) b a = record { new = a.new; roots = a.roots; leads = leads_alter x (with_value w v) m.trains (value_leads x w v) a.leads }
+  apart_with : (m : Model) (e : Effect) → Brings (inside (all_objects m)) m.roots (Not G) e → Apart G m → Apart G (space_with e m)
+  apart_with m leave b a = a
+  apart_with m (hold r h) b a = record { new = a.new; roots = λ q x e. set_either m.roots r q h x (Not G x) (a.roots q x) (b x) e; leads = a.leads }
+  apart_with m (point x i h) b a = record { new = a.new; roots = a.roots; leads = leads_alter x (with_ref i h) m.trains (ref_leads x i h b.1) a.leads }
+  apart_with m (store x w v) b a = record { new = a.new; roots = a.roots; leads = leads_alter x (with_value w v) m.trains (value_leads x w v) a.leads }
 
-  apart_made : (M : Meaning) (k a b r : ℕ) (m : Model) → Apart G m → Apart G (made_by (fresh M k a b) r m)
-  apart_made M k a b r m h = record {
+  apart_made : (p : Shape) (u : Offsets) (r : ℕ) (m : Model) → Apart G m → Apart G (made_by (fresh p u) r m)
+  apart_made p u r m h = record {
     new = λ x l. h.new x (omega arith);
     roots = λ q x e. set_either m.roots r q (Some m.made) x (Not G x) (h.roots q x) (λ i. let d : m.made ≡ x = cc in h.new x (omega arith)) e;
-    leads = place_at_all (Leads (Not G)) (arrival m.trains) (lowest_free (numbers m.trains)) (record { id = m.made; body = fresh M k a b }) m.trains
-        h.leads (λ n i y e. absurd (no_ref (M.ref_count k a b) i y e));
+    leads = place_at_all (Leads (Not G)) (arrival m.trains) (lowest_free (numbers m.trains)) (record { id = m.made; body = fresh p u }) m.trains
+        h.leads (λ n i y e. absurd (no_ref u.refs i y e));
   }
 
   -- no call brings back what is of G
-  pub apart_act : (M : Meaning) (has : Remembers) (c : Call) (m : Model) → Apart G m → Apart G (act M has c m).state
-  apart_act M has (make r k a b) m h =
-      make_cases (λ o. Apart G o.state) (is_root r) (M.admits k a b) (not (has_room (fresh M k a b) m)) m (made_by (fresh M k a b) r m)
-      (λ n. h) (λ ok room. apart_made M k a b r m h)
-  apart_act M has (access c) m h =
-      apart_with M m (reply_of (inside (all_objects m)) m.roots c).effect
+  pub apart_act : (M : ShapeTable) (c : Call) (m : Model) → Apart G m → Apart G (act M c m).state
+  apart_act M (Make r k a b) m h =
+      make_cases (λ o. Apart G o.state) (is_root r) (new_body M (shape_of k a b)) (λ x. not (has_room x m)) m (λ x. made_by x r m)
+      (λ n. h) (λ x is room. let u = fresh_is M (shape_of k a b) x is in rw u.2 (apart_made (shape_of k a b) u.0 r m h))
+  apart_act M (Access c) m h =
+      apart_with m (response (inside (all_objects m)) m.roots c).effect
       (brings (inside (all_objects m)) m.roots (Not G) h.roots
       (λ x b k. inside_all (Leads (Not G)) (all_objects m) x b k.has h.leads (h.roots k.at x k.is)) c) h
-  apart_act M has step m h =
-      let k = step_moves (Leads (Not G)) M has m m.trains refl h.leads in
+  apart_act M Step m h =
+      let k = step_moves (Leads (Not G)) M m m.trains refl h.leads in
       record {
         new = λ x l. h.new x (omega (arith, k.made));
         roots = λ r x e. h.roots r x (subst (λ (rs : Roots). held rs r ≡ Some x) k.roots e);
         leads = k.all;
       }
-  apart_act M has tally m h = h
+  apart_act M Tally m h = h
 
   -- trains of a rank of b or more have no object of G
   abbrev pub Clean : ℕ → Trains → Type 0
@@ -102,8 +104,8 @@ module _ (G : ℕ → Type 0) where
   abbrev pub Bound : ℕ → ℕ → ℕ → Type 0
   Bound b k x = b ≤ k → Not G x
 
-  abbrev pub CleanMark : ℕ → Option Wish → Type 0
-  CleanMark b mk = (w : Wish) → mk ≡ Some w → Bound b w.rank w.who
+  abbrev pub CleanMark : ℕ → Option MoveRequest → Type 0
+  CleanMark b mk = (w : MoveRequest) → mk ≡ Some w → Bound b w.rank w.who
 
   clean_place_at : (b k n : ℕ) (o : Obj) (ts : Trains) → Bound b k o.id → Clean b ts → Clean b (place_at k n o ts)
   clean_place_at zero k n o [] f h = ((f (omega arith), tt), tt)
@@ -133,49 +135,49 @@ module _ (G : ℕ → Type 0) where
   clean_first (suc b) t ts h e = absurd (omega (arith, e))
 
   -- the slots of a train without G hold none of G
-  train_bound : (b k : ℕ) (t : Train) → ((b ≤ k) → AllByRecursion (λ o. Not G o.id) (train_objects t)) → AllByRecursion (Leads (Not G)) (train_objects t) → AllByRecursion (Sent (Bound b)) (train_wishes k t)
+  train_bound : (b k : ℕ) (t : Train) → ((b ≤ k) → AllByRecursion (λ o. Not G o.id) (train_objects t)) → AllByRecursion (Leads (Not G)) (train_objects t) → AllByRecursion (Sent (Bound b)) (train_requests k t)
   train_bound b k t a l = train_sent (Bound b) k t (points (train_objects t) a l)
     where
       points : (os : List Obj) → ((b ≤ k) → AllByRecursion (λ o. Not G o.id) os) → AllByRecursion (Leads (Not G)) os → AllByRecursion (Points (Bound b k)) os
       points [] a l = tt
       points (o ∷ os) a l = (λ i y e q. l.0 (a q).0 i y e, points os (λ q. (a q).1) l.1)
 
-  trains_bound : (b c k : ℕ) (ts : Trains) → c ≤ b - k → Clean c ts → AllByRecursion (Leads (Not G)) (objects ts) → AllByRecursion (Sent (Bound b)) (trains_wishes k ts)
+  trains_bound : (b c k : ℕ) (ts : Trains) → c ≤ b - k → Clean c ts → AllByRecursion (Leads (Not G)) (objects ts) → AllByRecursion (Sent (Bound b)) (trains_requests k ts)
   trains_bound b c k [] e h l = tt
   trains_bound b zero k (t ∷ ts) e h l =
-      all_++ (Sent (Bound b)) (train_wishes k t) (trains_wishes (k + 1) ts)
+      all_++ (Sent (Bound b)) (train_requests k t) (trains_requests (k + 1) ts)
       (train_bound b k t (λ q. h.0) (all_left (Leads (Not G)) (train_objects t) (objects ts) l))
       (trains_bound b zero (k + 1) ts (omega arith) h.1 (all_right (Leads (Not G)) (train_objects t) (objects ts) l))
   trains_bound b (suc c) k (t ∷ ts) e h l =
-      all_++ (Sent (Bound b)) (train_wishes k t) (trains_wishes (k + 1) ts)
+      all_++ (Sent (Bound b)) (train_requests k t) (trains_requests (k + 1) ts)
       (train_bound b k t (λ q. absurd (omega (arith, q, e))) (all_left (Leads (Not G)) (train_objects t) (objects ts) l))
       (trains_bound b c (k + 1) ts (omega arith) h (all_right (Leads (Not G)) (train_objects t) (objects ts) l))
 
-  mark_bound : (b : ℕ) (mk : Option Wish) → CleanMark b mk → AllByRecursion (Sent (Bound b)) (mark_wishes mk)
+  mark_bound : (b : ℕ) (mk : Option MoveRequest) → CleanMark b mk → AllByRecursion (Sent (Bound b)) (mark_requests mk)
   mark_bound b None h = tt
   mark_bound b (Some w) h = (h w refl, tt)
 
-  module _ (b : ℕ) (rs : Roots) (mk : Option Wish) (f : Car) (cs : Train) (ts : Trains)
+  module _ (b : ℕ) (rs : Roots) (mk : Option MoveRequest) (f : Car) (cs : Train) (ts : Trains)
       (apart : (r x : ℕ) → held rs r ≡ Some x → Not G x) (leads : AllByRecursion (Leads (Not G)) (objects ((f ∷ cs) ∷ ts)))
       (clean : Clean b ((f ∷ cs) ∷ ts)) (marked : CleanMark b mk) where
     leads_first : AllByRecursion (Leads (Not G)) (train_objects (f ∷ cs))
     leads_first = all_left (Leads (Not G)) (train_objects (f ∷ cs)) (objects ts) leads
 
-    roots_bound : AllByRecursion (Sent (Bound b)) (ref_wishes (arrival ((f ∷ cs) ∷ ts)) rs)
+    roots_bound : AllByRecursion (Sent (Bound b)) (ref_requests (arrival ((f ∷ cs) ∷ ts)) rs)
     roots_bound = ref_sent (Bound b) (arrival ((f ∷ cs) ∷ ts)) rs (λ i y e q. apart i y e)
 
-    later_bound : AllByRecursion (Sent (Bound b)) (trains_wishes 1 ts)
+    later_bound : AllByRecursion (Sent (Bound b)) (trains_requests 1 ts)
     later_bound = trains_bound b (pred b) 1 ts (omega arith) (clean_tail b (f ∷ cs) ts clean) (all_right (Leads (Not G)) (train_objects (f ∷ cs)) (objects ts) leads)
 
     pub outside_bound : AllByRecursion (Sent (Bound b)) (outside rs ((f ∷ cs) ∷ ts) ts)
-    outside_bound = all_++ (Sent (Bound b)) (ref_wishes (arrival ((f ∷ cs) ∷ ts)) rs) (trains_wishes 1 ts) roots_bound later_bound
+    outside_bound = all_++ (Sent (Bound b)) (ref_requests (arrival ((f ∷ cs) ∷ ts)) rs) (trains_requests 1 ts) roots_bound later_bound
 
-    wishes_bound : AllByRecursion (Sent (Bound b)) (wishes rs mk f cs ts)
-    wishes_bound =
+    requests_bound : AllByRecursion (Sent (Bound b)) (requests rs mk f cs ts)
+    requests_bound =
         let W = Sent (Bound b) in
-        all_++ W (ref_wishes (arrival ((f ∷ cs) ∷ ts)) rs) (mark_wishes mk ++ (trains_wishes 1 ts ++ train_wishes 0 cs)) roots_bound
-        (all_++ W (mark_wishes mk) (trains_wishes 1 ts ++ train_wishes 0 cs) (mark_bound b mk marked)
-        (all_++ W (trains_wishes 1 ts) (train_wishes 0 cs) later_bound
+        all_++ W (ref_requests (arrival ((f ∷ cs) ∷ ts)) rs) (mark_requests mk ++ (trains_requests 1 ts ++ train_requests 0 cs)) roots_bound
+        (all_++ W (mark_requests mk) (trains_requests 1 ts ++ train_requests 0 cs) (mark_bound b mk marked)
+        (all_++ W (trains_requests 1 ts) (train_requests 0 cs) later_bound
         (train_bound b 0 cs (λ q. all_right (λ o. Not G o.id) f.objects (train_objects cs) (clean_first b (f ∷ cs) ts clean q))
         (all_right (Leads (Not G)) f.objects (train_objects cs) leads_first))))
 
@@ -184,25 +186,25 @@ module _ (G : ℕ → Type 0) where
     bound_leads (o ∷ os) h = (λ k n i y e q. h.0 (n q) i y e, bound_leads os h.1)
 
     -- the trains that the objects carried are placed in
-    pub clean_placed : (busy : List ℕ) → Clean b (place_all busy (claims (wishes rs mk f cs ts) f.objects).taken (cs ∷ ts))
+    pub clean_placed : (busy : List ℕ) → Clean b (place_all busy (claims (requests rs mk f cs ts) f.objects).taken (cs ∷ ts))
     clean_placed busy =
-        clean_place_all b busy (claims (wishes rs mk f cs ts) f.objects).taken (cs ∷ ts)
-        (claims_of (Bound b) (wishes rs mk f cs ts) f.objects wishes_bound (bound_leads f.objects (all_left (Leads (Not G)) f.objects (train_objects cs) leads_first)))
+        clean_place_all b busy (claims (requests rs mk f cs ts) f.objects).taken (cs ∷ ts)
+        (claims_of (Bound b) (requests rs mk f cs ts) f.objects requests_bound (bound_leads f.objects (all_left (Leads (Not G)) f.objects (train_objects cs) leads_first)))
         (clean_car b f cs ts clean)
 
   -- a mark that stands after a step is the old one or the first outside reference
-  pub mark_clean : (b out : ℕ) (w : Wish) (os : List Obj) (mk : Option Wish) → Bound b w.rank w.who → CleanMark b mk → CleanMark b (guard (mark_after os mk) out w)
+  pub mark_clean : (b out : ℕ) (w : MoveRequest) (os : List Obj) (mk : Option MoveRequest) → Bound b w.rank w.who → CleanMark b mk → CleanMark b (guard (mark_after os mk) out w)
   mark_clean b out w os mk f h = go mk h
     where
-      new : (n : ℕ) (v : Wish) → guard None n w ≡ Some v → Bound b v.rank v.who
-      new zero v e = let d : w ≡ v = cc in subst (λ (u : Wish). Bound b u.rank u.who) d f
+      new : (n : ℕ) (v : MoveRequest) → guard None n w ≡ Some v → Bound b v.rank v.who
+      new zero v e = let d : w ≡ v = cc in subst (λ (u : MoveRequest). Bound b u.rank u.who) d f
       new (suc n) v e = absurd (let z : ◌≡◌ {A = ℕ} 0 1 = cc in omega arith)
 
-      old : (u v : Wish) → CleanMark b (Some u) → (t : Bool) → guard (cond t None (Some u)) out w ≡ Some v → Bound b v.rank v.who
+      old : (u v : MoveRequest) → CleanMark b (Some u) → (t : Bool) → guard (cond t None (Some u)) out w ≡ Some v → Bound b v.rank v.who
       old u v h true e = new out v e
       old u v h false e = h v e
 
-      go : (mk : Option Wish) → CleanMark b mk → CleanMark b (guard (mark_after os mk) out w)
+      go : (mk : Option MoveRequest) → CleanMark b mk → CleanMark b (guard (mark_after os mk) out w)
       go None h v e = new out v e
       go (Some u) h v e = old u v h (among u.who os) e
 
@@ -212,11 +214,11 @@ module _ (G : ℕ → Type 0) where
       (subst (AllByRecursion (λ o. Not G o.id)) (sym (train_alter x f t)) (alter_all x f (λ o. Not G o.id) (λ o. Not G o.id) (λ o n. n) (train_objects t) h.0), clean_alter zero x f ts h.1)
   clean_alter (suc b) x f (t ∷ ts) h = clean_alter b x f ts h
 
-  pub clean_with : (M : Meaning) (b : ℕ) (m : Model) (e : Effect) → Clean b m.trains → Clean b (space_with M e m).trains
-  clean_with M b m leave h = h
-  clean_with M b m (hold r v) h = h
-  clean_with M b m (point x i v) h = clean_alter b x (with_ref i v) m.trains h
-  clean_with M b m (store x w v) h = clean_alter b x (with_value w v) m.trains h
+  pub clean_with : (b : ℕ) (m : Model) (e : Effect) → Clean b m.trains → Clean b (space_with e m).trains
+  clean_with b m leave h = h
+  clean_with b m (hold r v) h = h
+  clean_with b m (point x i v) h = clean_alter b x (with_ref i v) m.trains h
+  clean_with b m (store x w v) h = clean_alter b x (with_value w v) m.trains h
 
   pub clean_made : (d : Body) (b r : ℕ) (m : Model) → Apart G m → Clean b m.trains → Clean b (made_by d r m).trains
   clean_made d b r m a h =

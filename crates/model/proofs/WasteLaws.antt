@@ -5,15 +5,14 @@ use Rattle.std.proofs.lemmas.Bool.{eq-eqb, eqb-true, or_from, cases_lt, cases_Bo
 use Rattle.std.specs.List.{AllByRecursion, range_with_len, IsDistinct}
 use Rattle.std.specs.Prelude.{slice_get, option_map, find}
 use Rattle.std.proofs.lemmas.List.Sums.{sum_by-cons}
-use Rattle.layout.specs.Meaning.{Meaning, Lawful}
-use Rattle.remembered.specs.Meaning.{Meaning as Remembers}
+use Rattle.layout.specs.ShapeTable.{ShapeTable, Lawful}
 use Rattle.model.specs.Calls.{History, Event}
 use Rattle.model.specs.Bodies.{Body, Roots, size}
 use Rattle.model.specs.Plain.{graph_of}
 use Rattle.model.specs.Trains.{Obj, Train, Trains, train_objects, objects, words_of, one_of, times, inside}
 use Rattle.model.specs.Space.{Model, all_objects, space_of, Use}
 use Rattle.model.specs.Reach.{by_root, by_ref, SpaceReaches, Unreachable}
-use Rattle.model.specs.Laws.{steps, train_steps, WasteUpTo, GoneAfter, WasteNearTheFrontLeavesSooner, WasteLeavesInCountedSteps, size_of, sizes, WordsInUseAreOfTheReachableAndTheNew, is_step}
+use Rattle.model.specs.Laws.{steps, train_steps, WasteUpTo, GoneAfter, WasteNearTheFrontLeavesSooner, WasteLeavesInCountedSteps, size_of, sizes, ListsReachable, BoundedBy, enough_steps, GoesOn, is_step}
 use Rattle.model.specs.Sound.{SoundAt, Sound}
 use Rattle.model.proofs.Distinct.{sum_within, one_of_head, one_of_left, one_of_right, in_numbered, distinct_nil, distinct_cons}
 use Rattle.model.proofs.Keeps.{sound_of, times_self}
@@ -23,7 +22,7 @@ use Rattle.model.proofs.WasteClean.{Not, Apart, apart_act, Clean}
 use Rattle.model.proofs.WasteProgress.{toil_high}
 use Rattle.model.proofs.WasteGoing.{GoingAt, Going, going_act, ended}
 use Rattle.model.proofs.Alls.{all_map}
-use Rattle.model.specs.Claims.{Wish}
+use Rattle.model.specs.Claims.{MoveRequest}
 use Rattle.model.proofs.Totals.{is, one_if, sums}
 use Rattle.model.proofs.Closure.{is_self}
 
@@ -70,8 +69,8 @@ clean_start G b [] h = tt
 clean_start G zero (t ∷ ts) h = (lies_all (Not G) (train_objects t) (λ x. h 0 x (omega arith)), clean_start G zero ts (λ k x l. h (suc k) x (omega arith)))
 clean_start G (suc b) (t ∷ ts) h = clean_start G b ts (λ k x l. h (suc k) x (omega arith))
 
-going_start : (G : ℕ → Type 0) (j made : ℕ) (rs : Roots) (mk : Option Wish) (ts : Trains) → SoundAt made rs ts mk
-    → ((k x : ℕ) → j < k → 1 ≤ times x (train_objects (get_or ts k [])) → Not G x) → ((w : Wish) → mk ≡ Some w → j < w.rank → Not G w.who)
+going_start : (G : ℕ → Type 0) (j made : ℕ) (rs : Roots) (mk : Option MoveRequest) (ts : Trains) → SoundAt made rs ts mk
+    → ((k x : ℕ) → j < k → 1 ≤ times x (train_objects (get_or ts k [])) → Not G x) → ((w : MoveRequest) → mk ≡ Some w → j < w.rank → Not G w.who)
     → GoingAt G ((j + 1) * train_steps) 0 mk ts
 going_start G j made rs mk [] s lies marked = record { rank = 0; clean = tt; marked = λ w e. absurd (omega (arith, (s.mark w e).lies)); due = tt }
 going_start G j made rs mk (t ∷ ts) s lies marked = record {
@@ -93,34 +92,34 @@ clean_none G x g (t ∷ ts) h = omega (arith, sums, clean_none G x g ts h.1, non
         other true e = absurd (h.0 (subst G (eqb-true x o.id e) g))
         other false e = refl
 
-module _ (M : Meaning) (law : Lawful M) (has : Remembers) (h : History) (j : ℕ) (waste : WasteUpTo j (space_of M has h)) where
+module _ (M : ShapeTable) (law : Lawful M) (h : History) (j : ℕ) (waste : WasteUpTo j (space_of M h)) where
   record On (more : History) : Type 0 where
-    apart : Apart (Unreachable (space_of M has h)) (space_of M has (more ++ h))
-    going : Going (Unreachable (space_of M has h)) ((j + 1) * train_steps) (steps more) (space_of M has (more ++ h))
+    apart : Apart (Unreachable (space_of M h)) (space_of M (more ++ h))
+    going : Going (Unreachable (space_of M h)) ((j + 1) * train_steps) (steps more) (space_of M (more ++ h))
 
   on : (more : History) → On more
   on [] =
-      let m = space_of M has h in
-      let s = sound_of M law has h in
+      let m = space_of M h in
+      let s = sound_of M law h in
       record { apart = apart_start m s; going = going_start (Unreachable m) j m.made m.roots m.mark m.trains s waste.lies waste.marked }
   on (e ∷ more) =
-      let G = Unreachable (space_of M has h) in
-      let n = space_of M has (more ++ h) in
+      let G = Unreachable (space_of M h) in
+      let n = space_of M (more ++ h) in
       let r = on more in
       record {
-        apart = apart_act G M has e.call n r.apart;
-        going = subst (λ (s : ℕ). Going G ((j + 1) * train_steps) s (space_of M has (e ∷ (more ++ h)))) (sym (sum_by-cons (λ (d : Event). cond (is_step d.call) 1 0) e more))
-            (going_act G ((j + 1) * train_steps) (steps more) M has e.call n r.apart (sound_of M law has (more ++ h)) (sound_of M law has (e ∷ (more ++ h))) r.going);
+        apart = apart_act G M e.call n r.apart;
+        going = subst (λ (s : ℕ). Going G ((j + 1) * train_steps) s (space_of M (e ∷ (more ++ h)))) (sym (sum_by-cons (λ (d : Event). cond (is_step d.call) 1 0) e more))
+            (going_act G ((j + 1) * train_steps) (steps more) M e.call n r.apart (sound_of M law (more ++ h)) (sound_of M law (e ∷ (more ++ h))) r.going);
       }
 
-  gone : GoneAfter M has h ((j + 1) * train_steps)
+  gone : GoneAfter M h ((j + 1) * train_steps)
   gone more on_use x g =
-      let G = Unreachable (space_of M has h) in
-      let n = space_of M has (more ++ h) in
-      clean_none G x g n.trains (ended G ((j + 1) * train_steps) (steps more) n.made n.roots n.mark n.trains (sound_of M law has (more ++ h)) on_use.many (on more).going)
+      let G = Unreachable (space_of M h) in
+      let n = space_of M (more ++ h) in
+      clean_none G x g n.trains (ended G ((j + 1) * train_steps) (steps more) n.made n.roots n.mark n.trains (sound_of M law (more ++ h)) on_use.many (on more).going)
 
 pub waste_near_the_front : WasteNearTheFrontLeavesSooner
-waste_near_the_front M law has h u j waste = gone M law has h j waste
+waste_near_the_front M law h u j waste = gone M law h j waste
 
 -- no object lies, and no mark sends one, above as many ranks as there are trains
 waste_in_trains : (m : Model) → Sound m → WasteUpTo (length m.trains) m
@@ -132,7 +131,7 @@ waste_in_trains m s = record {
 }
 
 pub waste_leaves : WasteLeavesInCountedSteps
-waste_leaves M law has h u = gone M law has h (length (space_of M has h).trains) (waste_in_trains (space_of M has h) (sound_of M law has h))
+waste_leaves M law h u = gone M law h (length (space_of M h).trains) (waste_in_trains (space_of M h) (sound_of M law h))
 
 -- Words in use.
 abbrev identities : List Obj → List ℕ
@@ -181,14 +180,12 @@ known_all m n xs reach gone (o ∷ os) old lies = (known (cases_lt o.id m.made),
     ]
     known (inr g) = one_of_right o.id xs (range_with_len m.made (n.made - m.made)) (in_numbered o.id m.made (n.made - m.made) g (omega (arith, old.0, g)))
 
-pub words_of_the_reachable_and_the_new : WordsInUseAreOfTheReachableAndTheNew
-words_of_the_reachable_and_the_new M law has h more on_use xs reach =
-    let m = space_of M has h in
-    let n = space_of M has (more ++ h) in
-    let s = sound_of M law has (more ++ h) in
-    words-within (graph_of M (more ++ h)).entries (all_objects n) xs (range_with_len m.made (n.made - m.made)) s.once (sim_of M law has (more ++ h) on_use.use_after).twins
-    (known_all m n xs reach (λ x g. waste_leaves M law has h (first_use more on_use.use_after) more on_use x g) (all_objects n) s.old (times_self (all_objects n)))
-  where
-    first_use : (more : History) → Use M has (more ++ h) → Use M has h
-    first_use [] u = u
-    first_use (e ∷ more) u = first_use more u.1
+-- with a list of the reachable objects the words in use are bounded
+pub words_bounded : (M : ShapeTable) → Lawful M → (h : History) → Use M h → (xs : List ℕ) → ListsReachable (space_of M h) xs
+    → (more : History) → GoesOn M h (enough_steps (space_of M h)) more → BoundedBy M h more xs
+words_bounded M law h u xs list more on_use =
+    let m = space_of M h in
+    let n = space_of M (more ++ h) in
+    let s = sound_of M law (more ++ h) in
+    words-within (graph_of M (more ++ h)).entries (all_objects n) xs (range_with_len m.made (n.made - m.made)) s.once (sim_of M law (more ++ h) on_use.use_after).twins
+    (known_all m n xs list.all (λ x g. waste_leaves M law h u more on_use x g) (all_objects n) s.old (times_self (all_objects n)))

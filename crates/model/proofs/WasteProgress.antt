@@ -4,13 +4,13 @@ use Rattle.std.proofs.lemmas.Bool.{lt-ltb, ltb-true, ltb-false, ne_eqb, cases_lt
 use Rattle.std.specs.List.{AllByRecursion}
 use Rattle.model.specs.Bodies.{Body, Roots}
 use Rattle.model.specs.Trains.{Obj, Car, Train, Trains, train_objects, objects, words_of, place, place_at, fits, with_object, opened, numbers, lowest_free, times, among, alter_train}
-use Rattle.model.specs.Claims.{Wish, Claim}
-use Rattle.model.specs.Step.{first_to, outside, wishes, place_all, out_of, back_of, claimed, mark_after, guard}
+use Rattle.model.specs.Claims.{MoveRequest, Claim}
+use Rattle.model.specs.Step.{first_to, outside, requests, place_all, out_of, back_of, claimed, mark_after, guard}
 use Rattle.model.specs.Space.{Model, carried}
 use Rattle.model.proofs.Totals.{claims-total, place-total, is, sums}
 use Rattle.model.specs.Sound.{Sized, Filled, SoundAt}
 use Rattle.model.proofs.Alls.{all_left}
-use Rattle.model.proofs.Closure.{Wished}
+use Rattle.model.proofs.Closure.{Requested}
 use Rattle.model.proofs.Alters.{alter-times, train_alter, alter-total}
 use Rattle.model.proofs.Outside.{Sends, first_some, outside_ranks, outside-away, mark_away, away}
 use Rattle.model.proofs.Keeps.{leaves, is_few}
@@ -28,12 +28,12 @@ abbrev pub spot : ℕ → Train → ℕ
 spot x [] = 0
 spot x (c ∷ cs) = cond (among x c.objects) 0 (suc (spot x cs))
 
-abbrev pub mark_spot : Option Wish → Train → ℕ
+abbrev pub mark_spot : Option MoveRequest → Train → ℕ
 mark_spot None t = 64
 mark_spot (Some w) t = spot w.who t
 
 -- it falls with each step: 65 for each object, and the place of the marked one, which is below 65
-abbrev pub toil : Option Wish → Train → ℕ
+abbrev pub toil : Option MoveRequest → Train → ℕ
 toil mk t = 65 * sum_by one (train_objects t) + mark_spot mk t
 
 spot_short : (x : ℕ) (t : Train) → spot x t ≤ length t
@@ -59,11 +59,11 @@ filled_some (c ∷ d ∷ cs) l h =
     let w : 1 ≤ words_of c.objects = omega (arith, h.0) in
     omega (arith, sums, words_some c.objects w)
 
-mark_spot_few : (mk : Option Wish) (t : Train) → length t ≤ 63 → mark_spot mk t ≤ 64
+mark_spot_few : (mk : Option MoveRequest) (t : Train) → length t ≤ 63 → mark_spot mk t ≤ 64
 mark_spot_few None t h = omega arith
 mark_spot_few (Some w) t h = omega (arith, spot_short w.who t)
 
-module _ (made : ℕ) (rs : Roots) (t : Train) (ts : Trains) (mk : Option Wish) (s : SoundAt made rs (t ∷ ts) mk) where
+module _ (made : ℕ) (rs : Roots) (t : Train) (ts : Trains) (mk : Option MoveRequest) (s : SoundAt made rs (t ∷ ts) mk) where
   pub short : length t ≤ 63
   short = omega (arith, sums, train_by_words t s.filled.0, s.room)
 
@@ -142,30 +142,30 @@ times_few : (x : ℕ) (os : List Obj) → times x os ≤ sum_by one os
 times_few x [] = omega arith
 times_few x (o ∷ os) = omega (arith, sums, is_few x o, times_few x os)
 
-guard_none : (n : ℕ) (w : Wish) → 1 ≤ n → guard None n w ≡ None
+guard_none : (n : ℕ) (w : MoveRequest) → 1 ≤ n → guard None n w ≡ None
 guard_none zero w h = absurd (omega (arith, h))
 guard_none (suc n) w h = refl
 
-guard_new : (n : ℕ) (w : Wish) → n ≡ 0 → guard None n w ≡ Some w
+guard_new : (n : ℕ) (w : MoveRequest) → n ≡ 0 → guard None n w ≡ Some w
 guard_new zero w h = refl
 guard_new (suc n) w h = absurd (omega (arith, h))
 
 module _ (f : Car) (cs : Train) (ts : Trains) (m : Model) (s : SoundAt m.made m.roots ((f ∷ cs) ∷ ts) m.mark)
-    (w : Wish) (led : first_to (train_objects (f ∷ cs)) (outside m.roots ((f ∷ cs) ∷ ts) ts) ≡ Some w) where
-  mark_leaves : (u : Wish) → m.mark ≡ Some u → 1 ≤ times u.who f.objects → 1 ≤ out_of (carried f cs ts m).taken
-  mark_leaves u e l = leaves f cs ts m s u.who (subst (λ (mk : Option Wish). Wished u.who (away m.roots mk f cs ts)) (sym e) (mark_away m.roots u f cs ts)) l
+    (w : MoveRequest) (led : first_to (train_objects (f ∷ cs)) (outside m.roots ((f ∷ cs) ∷ ts) ts) ≡ Some w) where
+  mark_leaves : (u : MoveRequest) → m.mark ≡ Some u → 1 ≤ times u.who f.objects → 1 ≤ out_of (carried f cs ts m).taken
+  mark_leaves u e l = leaves f cs ts m s u.who (subst (λ (mk : Option MoveRequest). Requested u.who (away m.roots mk f cs ts)) (sym e) (mark_away m.roots u f cs ts)) l
 
   car_count-is : sum_by one (train_objects (f ∷ cs)) ≡ sum_by one (train_objects cs) + (back_of (carried f cs ts m).taken + (out_of (carried f cs ts m).taken + sum_by one (carried f cs ts m).left))
   car_count-is =
-      omega (arith, sums, claims-total one (wishes m.roots m.mark f cs ts) f.objects, out_back (carried f cs ts m).taken)
+      omega (arith, sums, claims-total one (requests m.roots m.mark f cs ts) f.objects, out_back (carried f cs ts m).taken)
 
   module _ (t : Train) (few : length t ≤ 63) (count : sum_by one (train_objects t) ≡ sum_by one (train_objects cs) + back_of (carried f cs ts m).taken)
       (spots : (x : ℕ) → 1 ≤ times x (train_objects cs) → spot x t ≤ spot x cs) where
     -- nothing was carried out or lost: the mark comes nearer
-    nearer : (mk : Option Wish) → m.mark ≡ mk → out_of (carried f cs ts m).taken ≡ 0
+    nearer : (mk : Option MoveRequest) → m.mark ≡ mk → out_of (carried f cs ts m).taken ≡ 0
         → suc (mark_spot (guard (mark_after f.objects mk) (out_of (carried f cs ts m).taken) w) t) ≤ mark_spot mk (f ∷ cs)
     nearer None e z =
-        subst (λ (k : Option Wish). suc (mark_spot k t) ≤ 64) (sym (guard_new (out_of (carried f cs ts m).taken) w z)) (omega (arith, spot_short w.who t))
+        subst (λ (k : Option MoveRequest). suc (mark_spot k t) ≤ 64) (sym (guard_new (out_of (carried f cs ts m).taken) w z)) (omega (arith, spot_short w.who t))
     nearer (Some u) e z = go (among u.who f.objects) refl
       where
         go : (b : Bool) → among u.who f.objects ≡ b
@@ -188,7 +188,7 @@ module _ (f : Car) (cs : Train) (ts : Trains) (m : Model) (s : SoundAt m.made m.
       in_car : (x : ℕ) → 1 ≤ times x (train_objects (f ∷ cs)) → 1 ≤ times x f.objects
       in_car x h = omega (arith, sums, h, z, times_few x (train_objects cs))
 
-      go : (mk : Option Wish) → m.mark ≡ mk → guard (mark_after f.objects mk) (out_of (carried f cs ts m).taken) w ≡ None
+      go : (mk : Option MoveRequest) → m.mark ≡ mk → guard (mark_after f.objects mk) (out_of (carried f cs ts m).taken) w ≡ None
       go None e =
           let k = first_some (λ v. Sends ((f ∷ cs) ∷ ts) v.rank) (train_objects (f ∷ cs)) (outside m.roots ((f ∷ cs) ∷ ts) ts) w led (outside_ranks m.roots (f ∷ cs) ts s.few) in
           guard_none (out_of (carried f cs ts m).taken) w (leaves f cs ts m s w.who (outside-away m.roots m.mark f cs ts w.who k.1) (in_car w.who k.0))
@@ -208,6 +208,6 @@ module _ (y : ℕ) (g : Body → Body) where
       ap (λ (n : ℕ). cond (ltb 0 n) 0 (suc (spot x (alter_train y g cs)))) (alter-times y g x c.objects)
       ∙ ap (λ (n : ℕ). cond (among x c.objects) 0 (suc n)) (spot-alter x cs)
 
-  pub toil-alter : (mk : Option Wish) (t : Train) → toil mk (alter_train y g t) ≡ toil mk t
+  pub toil-alter : (mk : Option MoveRequest) (t : Train) → toil mk (alter_train y g t) ≡ toil mk t
   toil-alter None t = omega (arith, count-alter t)
   toil-alter (Some w) t = omega (arith, count-alter t, spot-alter w.who t)

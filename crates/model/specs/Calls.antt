@@ -1,43 +1,32 @@
--- The calls of a space, what they answer, and the history of a use.
-use Rattle.std.specs.Prelude.{ℕ, Bool, true, false, List, [], ◌∷◌, ℤ, ⊤}
+-- What a call gives back, and the history of a use.
+use Rattle.std.specs.Prelude.{ℕ, Bool, true, false, List, [], ◌∷◌, Some, None, Option, ⊤}
+use Rattle.calls.specs.declared.call.Call.{Call}
+use Rattle.calls.specs.declared.answer.Answer.{Answer}
+use Rattle.calls.specs.declared.answer.Answer.TheVariants.{Refused, Done, Value, Words, Same, Tally, Step}
 use Rattle.calls.specs.declared.answer.Refusal.{Refusal}
-use Rattle.calls.specs.declared.answer.Refusal.TheVariants.{Root as root, Empty as empty, Missing as missing, Shape as shape, Full as full, Range as range, Buffer as buffer}
-use Rattle.calls.specs.declared.answer.Report.{Report}
-use Rattle.calls.specs.declared.answer.Usage.{Usage}
+use Rattle.calls.specs.declared.answer.Refusal.TheVariants.{Root, Empty, Missing, Shape, Full, Range, Buffer}
+use Rattle.remembered.specs.Updates.{Pairs}
 
--- a call on what the roots hold; of a buffer the call has its length
-pub data Access : Type 0 where
-  link : (root slot from : ℕ) → Access
-  follow : (root from slot : ℕ) → Access
-  drop : (root : ℕ) → Access
-  put : (root word value : ℕ) → Access
-  lift : (root word : ℕ) (by : ℤ) → Access
-  get : (root word : ℕ) → Access
-  words : (root buffer : ℕ) → Access
-  same : (root other : ℕ) → Access
+-- a call's answer, and the words that it puts to the front of the caller's buffer
+pub record Reply : Type 0 where
+  pub answer : Answer
+  pub written : List ℕ
 
--- the calls and answers are not those of crate `calls`: a use has `words` besides, which no script has, and the laws split a
--- call in four
-pub data Call : Type 0 where
-  make : (root kind refs words : ℕ) → Call
-  access : Access → Call
-  step : Call
-  tally : Call
+-- an answer with nothing written
+abbrev pub answered : Answer → Reply
+answered a = record { answer = a; written = [] }
 
--- Refusals, reports and usage are those of crate `calls`. wrote has the data words put to the front of the buffer; their
--- number is what the call answers
-pub data Answer : Type 0 where
-  refused : Refusal → Answer
-  done : Answer
-  value : ℕ → Answer
-  wrote : List ℕ → Answer
-  alike : Bool → Answer
-  usage : Usage → Answer
-  report : Report → Answer
+abbrev pub refused : Refusal → Reply
+refused n = answered (Refused n)
 
+abbrev pub done : Reply
+done = answered Done
+
+-- a call, its reply, and the pairs that the remembered set had as the call began
 pub record Event : Type 0 where
   pub call : Call
-  pub answer : Answer
+  pub reply : Reply
+  pub pairs : Pairs
 
 -- the newest event first
 abbrev pub History : Type 0
@@ -48,17 +37,34 @@ abbrev pub AtEach : (Event → History → Type 0) → History → Type 0
 AtEach P [] = ⊤
 AtEach P (e ∷ h) = P e h × AtEach P h
 
-abbrev pub is_full : Answer → Bool
-is_full (refused root) = false
-is_full (refused empty) = false
-is_full (refused missing) = false
-is_full (refused shape) = false
-is_full (refused full) = true
-is_full (refused range) = false
-is_full (refused buffer) = false
-is_full done = false
-is_full (value n) = false
-is_full (wrote ws) = false
-is_full (alike b) = false
-is_full (usage u) = false
-is_full (report r) = false
+-- why a call was refused, if it was
+abbrev pub refusal_in : Answer → Option Refusal
+refusal_in (Refused n) = Some n
+refusal_in Done = None
+refusal_in (Value v) = None
+refusal_in (Words n) = None
+refusal_in (Same b) = None
+refusal_in (Tally u) = None
+refusal_in (Step r) = None
+
+abbrev pub is_full_refusal : Refusal → Bool
+is_full_refusal Root = false
+is_full_refusal Empty = false
+is_full_refusal Missing = false
+is_full_refusal Shape = false
+is_full_refusal Full = true
+is_full_refusal Range = false
+is_full_refusal Buffer = false
+
+abbrev pub is_full_answer : Answer → Bool
+is_full_answer (Refused n) = is_full_refusal n
+is_full_answer Done = false
+is_full_answer (Value v) = false
+is_full_answer (Words n) = false
+is_full_answer (Same b) = false
+is_full_answer (Tally u) = false
+is_full_answer (Step r) = false
+
+-- whether a make was refused, since there is no room
+abbrev pub is_full : Reply → Bool
+is_full p = is_full_answer p.answer

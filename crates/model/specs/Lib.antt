@@ -10,4 +10,8 @@ pub mod Sound
 pub mod Reach
 pub mod Laws
 pub mod Remembered
+pub mod Refusals
+pub mod DataWords
+pub mod Exact
+pub mod TextPlay
 pub mod Examples

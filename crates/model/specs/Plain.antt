@@ -1,8 +1,10 @@
 -- The plain graph: nothing is ever lost in it. An object's identity is its entry's number.
 use Rattle.std.specs.Prelude.{ℕ, zero, suc, Bool, List, [], ◌∷◌, ◌++◌, length, replicate, Some, None, slice_set, slice_get}
-use Rattle.layout.specs.Meaning.{Meaning}
-use Rattle.model.specs.Calls.{Call, make, access, step, tally, done, History, is_full}
-use Rattle.model.specs.Bodies.{Body, Roots, fresh, with_ref, with_value, root_count, is_root, Effect, leave, hold, point, store, reply_of, Outcome, outcome, make_outcome}
+use Rattle.calls.specs.declared.call.Call.{Call}
+use Rattle.calls.specs.declared.call.Call.TheVariants.{Make, Access, Step, Tally}
+use Rattle.layout.specs.ShapeTable.{ShapeTable}
+use Rattle.model.specs.Calls.{done, History, is_full}
+use Rattle.model.specs.Bodies.{Body, Roots, shape_of, new_body, with_ref, with_value, root_count, is_root, Effect, leave, hold, point, store, response, Outcome, outcome, make_outcome}
 
 pub record Graph : Type 0 where
   pub entries : List Body
@@ -26,16 +28,16 @@ with_effect (store x w v) g = record { entries = alter_entry x (with_value w v) 
 abbrev pub with_entry : Body → ℕ → Graph → Graph
 with_entry b r g = record { entries = g.entries ++ (b ∷ []); roots = slice_set g.roots r (Some (length g.entries)) }
 
--- it is told whether the space refused a make as full; a step and a tally do nothing to the graph, and it gives no answer to
+-- it is told whether the space refused a make as full; a step and a tally do nothing to the graph, and it gives no reply to
 -- them that anything rests on
-abbrev pub plain : Meaning → (was_full : Bool) → Call → Graph → Outcome Graph
-plain M was_full (make r k a b) g =
-    make_outcome (is_root r) (M.admits k a b) was_full g (with_entry (fresh M k a b) r g)
-plain M was_full (access c) g = let p = reply_of (slice_get g.entries) g.roots c in outcome (with_effect p.effect g) p.answer
-plain M was_full step g = outcome g done
-plain M was_full tally g = outcome g done
+abbrev pub plain : ShapeTable → (was_full : Bool) → Call → Graph → Outcome Graph
+plain M was_full (Make r k a b) g =
+    make_outcome (is_root r) (new_body M (shape_of k a b)) (λ x. was_full) g (λ x. with_entry x r g)
+plain M was_full (Access c) g = let p = response (slice_get g.entries) g.roots c in outcome (with_effect p.effect g) p.reply
+plain M was_full Step g = outcome g done
+plain M was_full Tally g = outcome g done
 
 -- the graph after a history, fed only the calls and which makes were refused as full
-abbrev pub graph_of : Meaning → History → Graph
+abbrev pub graph_of : ShapeTable → History → Graph
 graph_of M [] = no_entries
-graph_of M (e ∷ h) = (plain M (is_full e.answer) e.call (graph_of M h)).state
+graph_of M (e ∷ h) = (plain M (is_full e.reply) e.call (graph_of M h)).state

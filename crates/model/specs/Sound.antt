@@ -4,7 +4,7 @@ use Rattle.std.specs.List.{AllByRecursion}
 use Rattle.model.specs.Bodies.{Roots, held}
 use Rattle.model.specs.Trains.{Obj, Train, Trains, train_objects, objects, words_of, words_in_use, times, obj_size, capacity, most_trains, car_words}
 use Rattle.model.specs.Space.{Model}
-use Rattle.model.specs.Claims.{Wish}
+use Rattle.model.specs.Claims.{MoveRequest}
 
 -- each reference of an object holds none or an identity of Q
 abbrev pub Points : (ℕ → Type 0) → Obj → Type 0
@@ -28,14 +28,14 @@ abbrev pub first_objects : Trains → List Obj
 first_objects [] = []
 first_objects (t ∷ ts) = train_objects t
 
--- a mark names an object of the first train and the rank of another, or of the one that would be opened next
-pub record Marked (w : Wish) (ts : Trains) : Type 0 where
+-- a mark is on an object of the first train, and has the rank of another train, or of the one that would be opened next
+pub record Marked (w : MoveRequest) (ts : Trains) : Type 0 where
   pub lies : 1 ≤ times w.who (first_objects ts)
   pub above : 1 ≤ w.rank
   pub within : w.rank ≤ length ts
   pub below : w.rank < most_trains
 
-pub record SoundAt (made : ℕ) (rs : Roots) (ts : Trains) (mk : Option Wish) : Type 0 where
+pub record SoundAt (made : ℕ) (rs : Roots) (ts : Trains) (mk : Option MoveRequest) : Type 0 where
   -- identities were given, and each lies in a car at most once
   pub old : AllByRecursion (λ o. o.id < made) (objects ts)
   pub once : (x : ℕ) → times x (objects ts) ≤ 1
@@ -47,7 +47,7 @@ pub record SoundAt (made : ℕ) (rs : Roots) (ts : Trains) (mk : Option Wish) : 
   pub filled : AllByRecursion Filled ts
   pub standing : AllByRecursion HasCars ts
   pub few : length ts ≤ most_trains
-  pub mark : (w : Wish) → mk ≡ Some w → Marked w ts
+  pub mark : (w : MoveRequest) → mk ≡ Some w → Marked w ts
 
 -- the facts that every call keeps
 abbrev pub Sound : Model → Type 0

@@ -72,13 +72,13 @@ with_object o c = record { number = c.number; objects = c.objects ++ (o ∷ []) 
 abbrev pub opened : ℕ → Obj → Car
 opened n o = record { number = n; objects = o ∷ [] }
 
--- into the last car if it fits, else into the car of number n, which becomes the last
+-- at the end of the last car, provided that it has room; if not, the car of number n is opened behind it
 abbrev pub place : (n : ℕ) → Obj → Train → Train
 place n o [] = opened n o ∷ []
 place n o (c ∷ []) = if fits c o then with_object o c ∷ [] else c ∷ opened n o ∷ []
 place n o (c ∷ d ∷ cs) = c ∷ place n o (d ∷ cs)
 
--- in the train of a rank; the first object placed behind the last train opens a train
+-- in the train of a rank; behind the last train an object opens one more
 abbrev pub place_at : (rank n : ℕ) → Obj → Trains → Trains
 place_at k n o [] = place n o [] ∷ []
 place_at zero n o (t ∷ ts) = place n o t ∷ ts
@@ -89,7 +89,8 @@ last_cars [] = 0
 last_cars (t ∷ []) = length t
 last_cars (t ∷ u ∷ ts) = last_cars (u ∷ ts)
 
--- the number of trains if there are fewer than eight and the last has four cars or more, else the last train's rank
+-- from two trains on: a rank of its own behind them, where the last has four cars at least and there are not eight yet; in all
+-- other cases the rank of the last
 abbrev pub arrival : Trains → ℕ
 arrival [] = 0
 arrival (t ∷ []) = 1

@@ -1,12 +1,14 @@
 -- What the card set does.
 use Rattle.std.specs.Prelude.{◌≡◌, ℕ, ◌/◌, Bool, false, if◌then◌else◌, not, ◌&&◌, ◌||◌, List, [], ◌∷◌, ◌==◌, slice_index_or}
 use Rattle.remembered.specs.declared.Pair.{Pair}
+use Rattle.remembered.specs.declared.Update.{Update}
+use Rattle.remembered.specs.declared.Update.TheVariants.{Note, Forget}
 use Rattle.remembered.specs.BitRow.{bit_in}
 use Rattle.remembered.specs.Laws.{in_range, new_in}
-use Rattle.remembered.specs.Meaning.{note, forget, Row, Meaning}
 use Rattle.remembered.specs.Pairs.{pair, within, without}
+use Rattle.remembered.specs.Updates.{Pairs, Updates}
 
--- each address in a marked card is paired; a card is listed by its car and its number
+-- a marked card pairs all of its addresses; a card is listed by its car and its number
 abbrev pub card_in : List Pair → ℕ → ℕ → Bool
 card_in cs c a = in_range c a && within cs c (a / 16)
 
@@ -15,13 +17,14 @@ abbrev pub card_note : ℕ → ℕ → List Pair → List Pair
 card_note c a cs = if new_in (card_in cs) c a then (pair c (a / 16) ∷ cs) else cs
 
 -- the marked cards after what the set was told
-abbrev pub card_run : Row → List Pair
+abbrev pub card_run : Updates → List Pair
 card_run [] = []
-card_run (note c a ∷ r) = card_note c a (card_run r)
-card_run (forget c ∷ r) = without c (card_run r)
+card_run (Note c a ∷ us) = card_note c a (card_run us)
+card_run (Forget c ∷ us) = without c (card_run us)
 
-abbrev pub card_has : Meaning
-card_has r = card_in (card_run r)
+-- the pairs that a card set has then
+abbrev pub card_has : Updates → Pairs
+card_has us = card_in (card_run us)
 
 -- whether an address lies in a marked card, by the set's rows: one for each car, with a bit for each card
 abbrev pub marked : List (List ℕ) → ℕ → ℕ → Bool
@@ -36,6 +39,7 @@ pub record CardNoted (old : List (List ℕ)) (c a : ℕ) (new : List (List ℕ))
 abbrev pub CardForgot : List (List ℕ) → ℕ → List (List ℕ) → Type 0
 CardForgot old c new = (d b : ℕ) → marked new d b ≡ (not (d == c) && marked old d b)
 
--- a set that was told a row has the pairs which the row gives
-abbrev pub CardTold : List (List ℕ) → Row → Type 0
-CardTold rows r = (c a : ℕ) → marked rows c a ≡ card_has r c a
+-- what a card set says of an update
+abbrev pub CardSays : List (List ℕ) → Update → List (List ℕ) → Type 0
+CardSays old (Note c a) new = CardNoted old c a new
+CardSays old (Forget c) new = CardForgot old c new

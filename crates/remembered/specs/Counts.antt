@@ -2,7 +2,7 @@
 use Rattle.std.specs.Prelude.{◌≡◌, ℕ, zero, suc, ◌+◌, ◌<◌, ◌≤◌, Bool, true, false, cond, ◌≢◌, refl}
 use Rattle.std.proofs.Common.{ap, ◌∙◌, ⊎_elim, arith, add-one}
 use Rattle.std.proofs.lemmas.Bool.{cases_eq, cases_lt}
-use Rattle.remembered.specs.Meaning.{count}
+use Rattle.remembered.specs.Updates.{count}
 
 pub count_same : (P Q : ℕ → Bool) (n : ℕ) → ((k : ℕ) → k < n → P k ≡ Q k) → count P n ≡ count Q n
 count_same P Q zero h = refl
@@ -11,6 +11,10 @@ count_same P Q (suc n) h = let more = count_same P Q n (λ k l. h k (omega arith
 pub count_none : (P : ℕ → Bool) (n : ℕ) → ((k : ℕ) → k < n → P k ≡ false) → count P n ≡ 0
 count_none P zero h = refl
 count_none P (suc n) h = ap (λ b. cond b 1 0 + count P n) (h n (omega arith)) ∙ omega (arith, count_none P n (λ k l. h k (omega arith)))
+
+pub count_all : (P : ℕ → Bool) (n : ℕ) → ((k : ℕ) → k < n → P k ≡ true) → count P n ≡ n
+count_all P zero h = refl
+count_all P (suc n) h = ap (λ b. cond b 1 0 + count P n) (h n (omega arith)) ∙ omega (arith, count_all P n (λ k l. h k (omega arith)))
 
 pub count_le : (P : ℕ → Bool) (n : ℕ) → count P n ≤ n
 count_le P zero = omega arith

@@ -9,6 +9,10 @@ in_range c a = nat_lt c 64 && nat_lt a 8192
 abbrev pub new_in : (ℕ → ℕ → Bool) → ℕ → ℕ → Bool
 new_in has c a = in_range c a && not (has c a)
 
+-- no pair is in P
+abbrev pub HasNone : (ℕ → ℕ → Bool) → Type 0
+HasNone P = (c a : ℕ) → P c a ≡ false
+
 -- all pairs of P are in Q
 abbrev pub Keeps : (ℕ → ℕ → Bool) → (ℕ → ℕ → Bool) → Type 0
 Keeps P Q = (c a : ℕ) → P c a ≡ true → Q c a ≡ true

@@ -7,9 +7,6 @@ use Rattle.std.proofs.lemmas.Map.Views.{any-filter_same}
 use Rattle.remembered.specs.declared.Pair.{Pair}
 use Rattle.remembered.specs.Pairs.{is_pair, within, without, number_of}
 
-pub eqb-sym : (m n : ℕ) → (m == n) ≡ (n == m)
-eqb-sym m n = grind (arith, common_steps)
-
 pub and_none : (b : Bool) → (b && false) ≡ false
 and_none true = refl
 and_none false = refl

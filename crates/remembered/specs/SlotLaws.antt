@@ -1,22 +1,24 @@
 -- Laws of the slot set.
-use Rattle.std.specs.Prelude.{◌≡◌, ℕ, zero, suc, ◌+◌, ◌*◌, ◌<◌, ◌≤◌, true, false, cond, not, ◌&&◌, ◌||◌, List, [], ◌∷◌, length, replicate, ◌==◌, ◌≢◌, nat_lt, slice_index_or, slice_set, refl}
+use Rattle.std.specs.Prelude.{◌≡◌, ℕ, zero, suc, ◌+◌, ◌<◌, ◌≤◌, ◌↔◌, Bool, true, false, IsTrue, cond, not, ◌&&◌, ◌||◌, List, [], ◌∷◌, length, replicate, ◌==◌, ◌≢◌, nat_lt, slice_index_or, slice_set, refl}
 use Rattle.std.proofs.Common.{sym, ap, subst, ◌∙◌, ⊎_elim, arith}
 use Rattle.std.proofs.Math.Seq.{map-set_same}
 use Rattle.std.proofs.lemmas.Grind.{common_steps}
-use Rattle.std.proofs.lemmas.List.Folds.{sum_by-replicate}
 use Rattle.std.proofs.lemmas.List.Sums.{sum_by-cons}
 use Rattle.std.proofs.lemmas.List.{get_or_default, get_or-set_same, get_or-set_other}
-use Rattle.std.proofs.lemmas.Bool.{cases_eq, eq-eqb, ne_eqb, and_right, and_parts, ltb-true, ltb-false, or_left, or_from, cond-true, cond-false, cond_both}
+use Rattle.std.proofs.lemmas.Bool.{cases_Bool, cases_eq, eq-eqb, ne_eqb, and_right, and_parts, ltb-true, ltb-false, or_from, cond-true, cond-false, cond_both}
 use Rattle.remembered.specs.BitRow.{bit_in, Marked}
 use Rattle.remembered.specs.BitRowLaws.{past_row}
-use Rattle.remembered.specs.Laws.{in_range, new_in}
-use Rattle.remembered.specs.Meaning.{Lawful}
+use Rattle.remembered.specs.Laws.{in_range, new_in, HasNone}
+use Rattle.remembered.specs.Leads.{IsExact, Leads}
+use Rattle.remembered.specs.Leads.Leads.{untold, told}
 use Rattle.remembered.specs.Pairs.{pair, number_of}
-use Rattle.remembered.specs.SlotCars.{Car, car_at, kept_count, places}
-use Rattle.remembered.specs.SlotCarLaws.{kept_count_more, kept_count_none, kept_count-le-places, places-set}
-use Rattle.remembered.specs.Slots.{Slots, slot_in, slot_note, slot_forget, slot_run, slot_has, kept, is_over, slot_pairs, kept_of, KeepsPair, OverflowsCar, SlotNoted, SlotForgot, SlotStands}
-use Rattle.remembered.specs.CardLaws.{range_from, range_parts}
-use Rattle.remembered.specs.Counts.{count_same, count_none, count_more}
+use Rattle.remembered.specs.SlotCars.{Car, car_at, kept_count, places, IsTallied}
+use Rattle.remembered.specs.SlotCarLaws.{kept_count_more, kept_count_none, kept_count-le-places, places_none, places-set}
+use Rattle.remembered.specs.Slots.{Slots, slot_in, slot_note, slot_forget, slot_run, slot_has, kept, is_over, slot_pairs, kept_of, KeepsPair, OverflowsCar, SlotNoted, SlotForgot, SlotSays, SlotStands}
+use Rattle.remembered.specs.RangeLaws.{range_from, range_parts}
+use Rattle.remembered.specs.Updates.{Updates}
+use Rattle.remembered.specs.declared.Update.TheVariants.{Note, Forget}
+use Rattle.remembered.specs.Counts.{count_same, count_none, count_all, count_more}
 use Rattle.remembered.specs.PairLists.{and_none, within-without, number-without, length_without}
 
 -- the counts when one pair more is kept
@@ -58,15 +60,6 @@ new_parts cars c a e = let q = range_parts c a (and_parts (in_range c a) _ e).0 
 -- the pairs that the set has after a forget
 pub freed_pairs : (old : List Car) (c : ℕ) (new : List Car) → ((d b : ℕ) → kept new d b ≡ (not (d == c) && kept old d b)) → ((d : ℕ) → is_over new d ≡ (not (d == c) && is_over old d)) → (d b : ℕ) → slot_pairs new d b ≡ (not (d == c) && slot_pairs old d b)
 freed_pairs old c new h o d b = grind (arith, common_steps, h d b, o d)
-
-pub slot_keeps : (old : List Car) (c a : ℕ) (new : List Car) → SlotNoted old c a new → (d b : ℕ) → slot_pairs old d b ≡ true → slot_pairs new d b ≡ true
-slot_keeps old c a new n d b e = n.pairs d b ∙ or_left (slot_pairs old d b) _ e
-
-pub slot_gains : (old : List Car) (c a : ℕ) (new : List Car) → SlotNoted old c a new → c < 64 → a < 8192 → slot_pairs new c a ≡ true
-slot_gains old c a new n hc ha = grind (arith, common_steps, n.pairs c a)
-
-pub slot_others : (old : List Car) (c : ℕ) (new : List Car) → SlotForgot old c new → (d b : ℕ) → (d ≢ c) → slot_pairs old d b ≡ true → slot_pairs new d b ≡ true
-slot_others old c new n d b ne e = grind (arith, common_steps, n.others d b)
 
 -- what stands for a state has the pairs of the state
 pub slot_agrees : (cars : List Car) (σ : Slots) → SlotStands cars σ → (c a : ℕ) → slot_pairs cars c a ≡ slot_in σ c a
@@ -126,14 +119,27 @@ slot_forgets old c new σ n s = record {
       (cases_eq d c);
 }
 
-pub slot_lawful : Lawful slot_has
-slot_lawful = record {
-  starts = λ c a. and_none (in_range c a);
-  bounded = λ r c a e. range_parts c a (and_parts (in_range c a) _ e).0;
-  keeps = λ r d b c a e. note_cases (λ τ. slot_in τ c a ≡ true) d b (slot_run r) (λ _. e) (λ _ l. grind (arith, common_steps)) (λ _ g. grind (arith, common_steps));
-  gains = λ r c a hc ha. note_cases (λ τ. slot_in τ c a ≡ true) c a (slot_run r) (λ o. grind (arith, common_steps)) (λ o l. grind (arith, common_steps)) (λ o g. grind (arith, common_steps));
-  keeps_others = λ r d c a ne e. let w = within-without d (slot_run r).kept c a in grind (arith, common_steps, w);
+-- cars with no pair stand for the state at the start
+pub none_stand : (cars : List Car) → HasNone (slot_pairs cars) → SlotStands cars (slot_run [])
+unfolding kept_of
+none_stand cars none = record {
+  kept_is = λ c a. kept_none c a ∙ sym (and_none (in_range c a));
+  over_is = λ c h. grind (arith, common_steps, none c 0);
+  used_is = places_none cars (λ c a hc ha. grind (arith, common_steps, none c a));
+  number_is = λ c. count_none (kept cars c) 8192 (λ k l. kept_none c k);
 }
+  where
+    kept_none : (c a : ℕ) → kept cars c a ≡ false
+    kept_none c a = grind (arith, common_steps, none c a)
+
+slot_stands : (s t : List Car) (us : Updates) → HasNone (slot_pairs s) → Leads slot_pairs SlotSays s us t → SlotStands t (slot_run us)
+slot_stands s _ [] none (untold _) = none_stand s none
+slot_stands s v (Note c a ∷ us) none (told _ t _ _ _ before _ said) = slot_tells t c a v (slot_run us) said (slot_stands s t us none before)
+slot_stands s v (Forget c ∷ us) none (told _ t _ _ _ before _ said) = slot_forgets t c v (slot_run us) said (slot_stands s t us none before)
+
+-- a slot set with no pair has the pairs that what it is told means
+pub slot_exact : IsExact slot_pairs SlotSays slot_has
+slot_exact s t us none way = slot_agrees t (slot_run us) (slot_stands s t us none way)
 
 -- a car's row and flag when one car is another
 set_at : (cars : List Car) (c : ℕ) (car : Car) → c < length cars → (d : ℕ) → d ≡ c → car_at (slice_set cars c car) d ≡ car
@@ -148,7 +154,7 @@ one_more cars c a car len hc ha was more over = record {
   kept_more = kept_more;
   over_same = over_same;
   flags_same = map-set_same (λ w. w.overflown) cars c car _ over;
-  used_more = omega (arith, places-set cars c car (omega arith), kept_count_more (car_at cars c).kept a car.kept ha was more);
+  used_more = omega (arith, places-set cars c car len hc, kept_count_more (car_at cars c).kept a car.kept ha was more);
 }
   where
     kept_more : (d b : ℕ) → kept (slice_set cars c car) d b ≡ (kept cars d b || (d == c && b == a))
@@ -170,7 +176,7 @@ one_over cars c car len hc same over = record {
   kept_same = kept_same;
   rows_same = map-set_same (λ w. w.kept) cars c car _ same;
   over_more = over_more;
-  used_same = omega (arith, places-set cars c car (omega arith), ap kept_count same);
+  used_same = omega (arith, places-set cars c car len hc, ap kept_count same);
 }
   where
     kept_same : (d b : ℕ) → kept (slice_set cars c car) d b ≡ kept cars d b
@@ -206,7 +212,7 @@ frees_car cars c car len hc none over = record {
   others = freed_pairs cars c (slice_set cars c car) others_kept others_over;
   others_kept = others_kept;
   others_over = others_over;
-  frees = omega (arith, places-set cars c car (omega arith), kept_count_none car.kept none, kept_of-row cars c hc);
+  frees = omega (arith, places-set cars c car len hc, kept_count_none car.kept none, kept_of-row cars c hc);
 }
   where
     others_kept : (d b : ℕ) → kept (slice_set cars c car) d b ≡ (not (d == c) && kept cars d b)
@@ -249,29 +255,35 @@ start_over car over zero c = refl
 start_over car over (suc n) zero = over
 start_over car over (suc n) (suc c) = start_over car over n c
 
-pub start_places : (car : Car) → ((a : ℕ) → bit_in car.kept a ≡ false) → (n : ℕ) → places (replicate n car) ≡ 0
-unfolding places
-start_places car none n = sum_by-replicate (λ (x : Car). kept_count x.kept) n car ∙ ap (λ m. n * m) (kept_count_none car.kept none) ∙ omega arith
-
-pub start_pairs : (car : Car) → ((a : ℕ) → bit_in car.kept a ≡ false) → car.overflown ≡ false → (c a : ℕ) → slot_pairs (replicate 64 car) c a ≡ false
+pub start_pairs : (car : Car) → ((a : ℕ) → bit_in car.kept a ≡ false) → car.overflown ≡ false → HasNone (slot_pairs (replicate 64 car))
 start_pairs car none over c a = and_right (in_range c a) _ (or_from _ _ (and_right (nat_lt c 64) _ (start_over car over 64 c)) (start_kept car none 64 c a))
 
-pub start_stands : (car : Car) → ((a : ℕ) → bit_in car.kept a ≡ false) → car.overflown ≡ false → SlotStands (replicate 64 car) (slot_run [])
-unfolding kept_of
-start_stands car none over = record {
-  kept_is = λ c a. kept_none c a ∙ sym (and_none (in_range c a));
-  over_is = λ c h. and_right (nat_lt c 64) _ (start_over car over 64 c);
-  used_is = start_places car none 64;
-  number_is = numbers;
-}
-  where
-    kept_none : (c a : ℕ) → kept (replicate 64 car) c a ≡ false
-    kept_none c a = and_right (in_range c a) _ (start_kept car none 64 c a)
-
-    numbers : (c : ℕ) → kept_of (replicate 64 car) c ≡ 0
-    numbers c = count_none (kept (replicate 64 car) c) 8192 (λ k l. kept_none c k)
+-- all places are free then
+pub start_places : (car : Car) → ((a : ℕ) → bit_in car.kept a ≡ false) → places (replicate 64 car) ≡ 0
+start_places car none = places_none (replicate 64 car) (λ c a hc ha. start_kept car none 64 c a)
 
 -- what a car gives back is a part of the places in use
 pub freed_count : (cars : List Car) (c : ℕ) (d : Car) → length cars ≡ 64 → c < 64 → (kept_count (slice_index_or cars c d).kept ≡ kept_of cars c) × (kept_of cars c ≤ places cars)
 freed_count cars c d len hc =
-    (ap (λ (w : Car). kept_count w.kept) (get_or_default cars c d _ (omega arith)) ∙ sym (kept_of-row cars c hc), omega (arith, kept_of-row cars c hc, kept_count-le-places cars c (omega arith)))
+    (ap (λ (w : Car). kept_count w.kept) (get_or_default cars c d _ (omega arith)) ∙ sym (kept_of-row cars c hc), omega (arith, kept_of-row cars c hc, kept_count-le-places cars c len hc))
+
+all_kept : (cars : List Car) (c : ℕ) → ((a : ℕ) → a < 8192 → kept cars c a ≡ true) → kept_of cars c ≡ 8192
+unfolding kept_of
+all_kept cars c h = count_all (kept cars c) 8192 h
+
+-- a car with all addresses is overflown, since they would not fit into 2,048 places
+over_if_all : (cars : List Car) (used c : ℕ) → IsTallied cars used → ((a : ℕ) → a < 8192 → slot_pairs cars c a ≡ true) → is_over cars c ≡ true
+over_if_all cars used c tallied all =
+    let hc = (range_parts c 0 (and_parts (in_range c 0) _ (all 0 (omega arith))).0).0 in
+    ⊎_elim (λ e. e)
+    (λ (e : is_over cars c ≡ false).
+    let many = all_kept cars c (λ a l. grind (arith, common_steps, all a l)) in
+    absurd (omega (arith, many, kept_of-row cars c hc, kept_count-le-places cars c tallied.full hc, tallied.tallied, tallied.room)))
+    (cases_Bool (is_over cars c))
+
+-- a car is overflown exactly when it has all addresses; its flag is read with any default
+pub over_all : (cars : List Car) (used c : ℕ) (d : Car) (over : Bool) → IsTallied cars used → nat_lt c 64 ≡ true → over ≡ (slice_index_or cars c d).overflown → IsTrue over ↔ ((a : ℕ) → a < 8192 → slot_pairs cars c a ≡ true)
+over_all cars used c d over tallied in_range e =
+    let at = get_or_default cars c d (record { kept = []; overflown = false }) (omega (arith, tallied.full, ltb-true c 64 in_range)) in
+    let is : over ≡ is_over cars c = grind (arith, common_steps, e, at) in
+    (λ o a l. grind (arith, common_steps, is, o), λ all. is ∙ over_if_all cars used c tallied all)

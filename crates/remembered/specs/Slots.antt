@@ -1,11 +1,13 @@
 -- What the slot set does.
 use Rattle.std.specs.Prelude.{◌≡◌, ℕ, ◌+◌, ◌-◌, ◌<◌, ◌≤◌, Bool, true, false, if◌then◌else◌, not, ◌&&◌, ◌||◌, List, [], ◌∷◌, length, map, ◌==◌, nat_le, nat_lt}
 use Rattle.remembered.specs.declared.Pair.{Pair}
+use Rattle.remembered.specs.declared.Update.{Update}
+use Rattle.remembered.specs.declared.Update.TheVariants.{Note, Forget}
 use Rattle.remembered.specs.BitRow.{bit_in}
 use Rattle.remembered.specs.Laws.{in_range, new_in}
-use Rattle.remembered.specs.Meaning.{note, forget, Row, Meaning, count}
 use Rattle.remembered.specs.Pairs.{pair, within, without, number_of}
 use Rattle.remembered.specs.SlotCars.{Car, car_at, places}
+use Rattle.remembered.specs.Updates.{Pairs, Updates, count}
 
 -- the pairs kept, and which cars are overflown
 pub record Slots : Type 0 where
@@ -29,13 +31,14 @@ abbrev pub slot_forget : ℕ → Slots → Slots
 slot_forget c σ = record { kept = without c σ.kept; over = λ d. not (d == c) && σ.over d }
 
 -- the slot set after what it was told
-abbrev pub slot_run : Row → Slots
+abbrev pub slot_run : Updates → Slots
 slot_run [] = record { kept = []; over = λ d. false }
-slot_run (note c a ∷ r) = slot_note c a (slot_run r)
-slot_run (forget c ∷ r) = slot_forget c (slot_run r)
+slot_run (Note c a ∷ us) = slot_note c a (slot_run us)
+slot_run (Forget c ∷ us) = slot_forget c (slot_run us)
 
-abbrev pub slot_has : Meaning
-slot_has r = slot_in (slot_run r)
+-- the pairs that a slot set has then
+abbrev pub slot_has : Updates → Pairs
+slot_has us = slot_in (slot_run us)
 
 -- the pairs kept, by the set's rows
 abbrev pub kept : List Car → ℕ → ℕ → Bool
@@ -83,6 +86,11 @@ pub record SlotForgot (old : List Car) (c : ℕ) (new : List Car) : Type 0 where
   pub others_kept : (d b : ℕ) → kept new d b ≡ (not (d == c) && kept old d b)
   pub others_over : (d : ℕ) → is_over new d ≡ (not (d == c) && is_over old d)
   pub frees : places new ≡ places old - kept_of old c
+
+-- what a slot set says of an update
+abbrev pub SlotSays : List Car → Update → List Car → Type 0
+SlotSays old (Note c a) new = SlotNoted old c a new
+SlotSays old (Forget c) new = SlotForgot old c new
 
 -- the cars stand for a state
 pub record SlotStands (cars : List Car) (σ : Slots) : Type 0 where

@@ -4,9 +4,11 @@ ghost use Rattle.std.specs.Prelude.{◌≡◌, ℕ, ◌+◌, ◌-◌, ◌<◌, �
 ghost use Rattle.arrayvec.specs.ArrayVec.{array_vec_len};
 ghost use Rattle.remembered.specs.Laws.{new_in, Least};
 ghost use Rattle.remembered.specs.Pairs.{pair, is_pair, without};
-ghost use Rattle.remembered.specs.Buffers.{buffered, Ranged, with_held, Sends, BufferNoted, BufferForgot, BufferTold};
-ghost use Rattle.remembered.specs.BufferLaws.{buffer_bounded, buffer_keeps, buffer_gains, buffer_others, buffered_lawful, buffer_agrees, buffer_tells, buffer_forgets};
+ghost use Rattle.remembered.specs.Buffers.{buffered, sent, Ranged, with_held, BufferNoted, BufferForgot, BufferSays};
+ghost use Rattle.remembered.specs.BufferLaws.{buffer_bounded, buffered_exact};
+ghost use Rattle.remembered.specs.Leads.{Leads};
 
+use crate::exact::ExactSet;
 use crate::{Pair, RememberedSet, is_in_range};
 use arrayvec::ArrayVec;
 
@@ -39,17 +41,6 @@ fn nearer(best: Option<u32>, pair: Pair, car: u32, from: u32) -> Option<u32>
 impl<S> Buffered<S> {
     ghost use Rattle.remembered.specs.BufferParts.{set_below, held_pairs};
 
-    /// An empty buffer above a set.
-    pub fn over(below: S) -> Buffered<S>
-        ensures below { set_below result ≡ below }
-        ensures none { held_pairs result ≡ [] }
-    {
-        Buffered {
-            below,
-            held: ArrayVec::new(),
-        }
-    }
-
     /// How many pairs are held, of 16.
     pub fn held_count(&self) -> u32
         ensures value { result ≡ length (held_pairs self.now) }
@@ -79,9 +70,23 @@ impl<S> Buffered<S> {
 }
 
 impl<S: RememberedSet> Buffered<S> {
+    ghost use Rattle.remembered.specs.BufferParts.{set_below, held_pairs};
+
+    /// A buffer above any set, with the pairs that the set has. It holds none yet.
+    pub fn over(below: S) -> Buffered<S>
+        ensures pairs { (c a : ℕ) → ⟦<Buffered<S> as RememberedSet>⟧.has result c a ≡ S.has below c a }
+        ensures below { set_below result ≡ below }
+        ensures none { held_pairs result ≡ [] }
+    {
+        Buffered {
+            below,
+            held: ArrayVec::new(),
+        }
+    }
+
     // Sends all held pairs down, in their order.
     fn send_down(&mut self)
-        ensures below { Sends S.noted self.old.below self.old.held.items self.new.below }
+        ensures below { Leads S.has S.says self.old.below (sent self.old.held.items []) self.new.below }
         ensures none { self.new.held.items ≡ [] }
     {
         let below = &mut self.below;
@@ -95,7 +100,7 @@ impl<S: RememberedSet> Buffered<S> {
     fn make_room(&mut self)
         ensures room { array_vec_len self.new.held < 16 }
         ensures same { array_vec_len self.old.held < 16 → self.new ≡ self.old }
-        ensures below { 16 ≤ array_vec_len self.old.held → Sends S.noted self.old.below self.old.held.items self.new.below }
+        ensures below { 16 ≤ array_vec_len self.old.held → Leads S.has S.says self.old.below (sent self.old.held.items []) self.new.below }
         ensures none { 16 ≤ array_vec_len self.old.held → self.new.held.items ≡ [] }
     {
         if self.held.is_full() {
@@ -123,35 +128,11 @@ impl<S: RememberedSet> Buffered<S> {
 }
 
 impl<S: RememberedSet> RememberedSet for Buffered<S> {
-    ghost has = { λ s c a. with_held (S.has s.below) s.held.items c a };
+    ghost has = { λ s. with_held (S.has s.below) s.held.items };
 
-    ghost noted = { λ s c a t. BufferNoted S.has S.noted s.below s.held.items c a t.below t.held.items };
-
-    ghost forgot = { λ s c t. BufferForgot S.forgot s.below s.held.items c t.below t.held.items };
-
-    ghost means = { buffered S.means };
-
-    ghost told = { λ s r. BufferTold S.means S.told s.below s.held.items r };
+    ghost says = { λ s u t. BufferSays S.has S.says s.below s.held.items u t.below t.held.items };
 
     ghost bounded = { λ s. buffer_bounded S.has s.below s.held.items s.near (S.bounded s.below) };
-
-    ghost keeps = { λ s t c a n. buffer_keeps S.has S.noted S.keeps S.gains s.below s.held.items c a t.below t.held.items s.near n };
-
-    ghost gains = { λ s t c a n. buffer_gains S.has S.noted s.below s.held.items c a t.below t.held.items n };
-
-    ghost others = { λ s t c n. buffer_others S.has S.forgot s.below s.held.items c t.below t.held.items (S.others s.below t.below c) n };
-
-    ghost lawful = { buffered_lawful S.means S.lawful };
-
-    ghost agrees = { λ s r h. buffer_agrees S.has S.means S.told S.agrees s.below s.held.items r h };
-
-    ghost tells = { λ s t c a r n h. buffer_tells S.has S.noted S.means S.told S.agrees S.tells s.below s.held.items c a t.below t.held.items r n h };
-
-    ghost forgets = { λ s t c r n h. buffer_forgets S.forgot S.means S.told S.forgets s.below s.held.items c t.below t.held.items r n h };
-
-    fn empty() -> Buffered<S> {
-        Buffered::over(S::empty())
-    }
 
     fn note(&mut self, car: u32, address: u32) {
         if self.lacks(car, address) {
@@ -168,4 +149,10 @@ impl<S: RememberedSet> RememberedSet for Buffered<S> {
         self.below.forget(car);
         self.drop_held(car);
     }
+}
+
+impl<S: ExactSet> ExactSet for Buffered<S> {
+    ghost means = { buffered S.means };
+
+    ghost exact = { buffered_exact S.has S.says S.means (λ s. s.below) (λ s. s.held.items) S.exact };
 }

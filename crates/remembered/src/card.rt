@@ -1,12 +1,13 @@
 //! The card set: a mark for each car and each card, that is 16 addresses that lie side by side; memory has 512 cards.
 
 ghost use Rattle.std.specs.Prelude.{◌≡◌, ◌/◌, ◌<◌};
-ghost use Rattle.remembered.specs.Cards.{card_has, marked, CardNoted, CardForgot, CardTold};
-ghost use Rattle.remembered.specs.Laws.{new_in};
-ghost use Rattle.remembered.specs.CardLaws.{card_lawful, card_tells, card_forgets};
+ghost use Rattle.remembered.specs.Cards.{card_has, marked, CardSays};
+ghost use Rattle.remembered.specs.CardLaws.{card_exact};
+ghost use Rattle.remembered.specs.Laws.{new_in, HasNone};
 ghost use Rattle.std.proofs.Common.{rules};
 
 use crate::bit_row::BitRow;
+use crate::exact::ExactSet;
 use crate::{CARS, RememberedSet, is_car, is_in_range};
 
 // How many addresses a card has.
@@ -22,6 +23,15 @@ pub struct CardSet {
 }
 
 impl CardSet {
+    /// A set with no pair.
+    pub fn new() -> CardSet
+        ensures { HasNone (⟦<CardSet as RememberedSet>⟧.has result) }
+    {
+        CardSet {
+            cars: [BitRow::none(); CARS],
+        }
+    }
+
     // Whether the pair could be in the set and is not.
     fn lacks(&self, car: u32, address: u32) -> bool
         ensures { result ≡ new_in (marked self.now.cars) car address }
@@ -31,37 +41,11 @@ impl CardSet {
 }
 
 impl RememberedSet for CardSet {
-    ghost has = { λ s c a. marked s.cars c a };
+    ghost has = { λ s. marked s.cars };
 
-    ghost noted = { λ s c a t. CardNoted s.cars c a t.cars };
-
-    ghost forgot = { λ s c t. CardForgot s.cars c t.cars };
-
-    ghost means = { card_has };
-
-    ghost told = { λ s r. CardTold s.cars r };
+    ghost says = { λ s u t. CardSays s.cars u t.cars };
 
     ghost bounded = { Prim.search rules };
-
-    ghost keeps = { Prim.search rules };
-
-    ghost gains = { Prim.search rules };
-
-    ghost others = { Prim.search rules };
-
-    ghost lawful = { card_lawful };
-
-    ghost agrees = { Prim.search rules };
-
-    ghost tells = { λ s t c a r n h. card_tells s.cars t.cars c a r n h };
-
-    ghost forgets = { λ s t c r n h. card_forgets s.cars t.cars c r n h };
-
-    fn empty() -> CardSet {
-        CardSet {
-            cars: [BitRow::none(); CARS],
-        }
-    }
 
     fn note(&mut self, car: u32, address: u32) {
         if self.lacks(car, address) {
@@ -82,4 +66,10 @@ impl RememberedSet for CardSet {
             self.cars[car as usize] = BitRow::none();
         }
     }
+}
+
+impl ExactSet for CardSet {
+    ghost means = { card_has };
+
+    ghost exact = { card_exact (λ s. s.cars) };
 }

@@ -1,14 +1,15 @@
 //! The slot set: up to 2,048 pairs, and the cars that overflowed when it was full.
 
-ghost use Rattle.std.specs.Prelude.{◌≡◌, ℕ, ◌+◌, ◌-◌, ◌*◌, ◌<◌, ◌≤◌, true, false, not, ◌&&◌, ◌||◌, ◌==◌, nat_lt};
+ghost use Rattle.std.specs.Prelude.{◌≡◌, ℕ, ◌+◌, ◌-◌, ◌*◌, ◌<◌, ◌≤◌, true, false, not, ◌&&◌, ◌||◌, ◌==◌, nat_lt, ◌↔◌, IsTrue};
 ghost use Rattle.remembered.specs.BitRow.{bit_in, Marked};
-ghost use Rattle.remembered.specs.Laws.{new_in, Least};
+ghost use Rattle.remembered.specs.Laws.{new_in, HasNone, Least};
 ghost use Rattle.remembered.specs.SlotCars.{kept_count, places};
-ghost use Rattle.remembered.specs.Slots.{slot_has, slot_run, slot_pairs, is_over, KeepsPair, OverflowsCar, SlotNoted, SlotForgot, SlotStands};
-ghost use Rattle.remembered.specs.SlotLaws.{slot_keeps, slot_gains, slot_others, slot_lawful, slot_agrees, slot_tells, slot_forgets};
+ghost use Rattle.remembered.specs.Slots.{slot_has, slot_pairs, is_over, KeepsPair, OverflowsCar, SlotForgot, SlotSays};
+ghost use Rattle.remembered.specs.SlotLaws.{slot_exact};
 ghost use Rattle.std.proofs.Common.{rules};
 
 use crate::bit_row::BitRow;
+use crate::exact::ExactSet;
 use crate::{CARS, RememberedSet, is_car, is_in_range};
 use std::marker::Model;
 
@@ -133,6 +134,17 @@ impl Model for SlotSet {
 }
 
 impl SlotSet {
+    /// A set with no pair.
+    pub fn new() -> SlotSet
+        ensures pairs { HasNone (⟦<SlotSet as RememberedSet>⟧.has result) }
+        ensures places { places result ≡ 0 }
+    {
+        SlotSet {
+            cars: [CarPairs::none(); CARS],
+            used: 0,
+        }
+    }
+
     /// How many of the 2,048 places are in use.
     pub fn in_use(&self) -> usize
         ensures value { result ≡ places self.now }
@@ -143,7 +155,8 @@ impl SlotSet {
 
     /// Whether a new pair of the car found the set full, and the car was not forgotten since.
     pub fn is_overflown(&self, car: u32) -> bool
-        ensures { result ≡ is_over self.now car }
+        ensures over { result ≡ is_over self.now car }
+        ensures all { IsTrue result ↔ ((address : ℕ) → address < 8192 → ⟦<SlotSet as RememberedSet>⟧.has self.now car address ≡ true) }
     {
         is_car(car) && self.cars[car as usize].is_overflown()
     }
@@ -183,38 +196,11 @@ impl SlotSet {
 }
 
 impl RememberedSet for SlotSet {
-    ghost has = { λ s c a. slot_pairs s c a };
+    ghost has = { slot_pairs };
 
-    ghost noted = { λ s c a t. SlotNoted s c a t };
-
-    ghost forgot = { λ s c t. SlotForgot s c t };
-
-    ghost means = { slot_has };
-
-    ghost told = { λ s r. SlotStands s (slot_run r) };
+    ghost says = { SlotSays };
 
     ghost bounded = { Prim.search rules };
-
-    ghost keeps = { λ s t c a n. slot_keeps s c a t n };
-
-    ghost gains = { λ s t c a n. slot_gains s c a t n };
-
-    ghost others = { λ s t c n. slot_others s c t n };
-
-    ghost lawful = { slot_lawful };
-
-    ghost agrees = { λ s r h. slot_agrees s (slot_run r) h };
-
-    ghost tells = { λ s t c a r n h. slot_tells s c a t (slot_run r) n h };
-
-    ghost forgets = { λ s t c r n h. slot_forgets s c t (slot_run r) n h };
-
-    fn empty() -> SlotSet {
-        SlotSet {
-            cars: [CarPairs::none(); CARS],
-            used: 0,
-        }
-    }
 
     fn note(&mut self, car: u32, address: u32) {
         if !self.lacks(car, address) {
@@ -239,4 +225,10 @@ impl RememberedSet for SlotSet {
             self.free(car);
         }
     }
+}
+
+impl ExactSet for SlotSet {
+    ghost means = { slot_has };
+
+    ghost exact = { slot_exact };
 }

@@ -73,28 +73,28 @@ fn compare(rt: &HostRuntime, rounds: u32, timed: bool) -> anyhow::Result<()> {
     show(
         rt,
         "slot set",
-        run_set(rt, SlotSet::empty(), rounds)?,
+        run_set(rt, SlotSet::new(), rounds)?,
         plain,
         timed,
     )?;
     show(
         rt,
         "card set",
-        run_set(rt, CardSet::empty(), rounds)?,
+        run_set(rt, CardSet::new(), rounds)?,
         plain,
         timed,
     )?;
     show(
         rt,
         "buffered slot set",
-        run_set(rt, Buffered::over(SlotSet::empty()), rounds)?,
+        run_set(rt, Buffered::over(SlotSet::new()), rounds)?,
         plain,
         timed,
     )?;
     show(
         rt,
         "buffered card set",
-        run_set(rt, Buffered::over(CardSet::empty()), rounds)?,
+        run_set(rt, Buffered::over(CardSet::new()), rounds)?,
         plain,
         timed,
     )

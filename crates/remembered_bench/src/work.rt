@@ -1,7 +1,7 @@
 //! The work of one round: notes of drawn pairs, then each car counted and forgotten.
 
 use remembered::RememberedSet;
-use remembered::tally::pairs;
+use remembered::count::pairs;
 
 /// The next number of a small generator.
 pub fn draw(seed: u32) -> u32 {

@@ -1,7 +1,7 @@
 //! A case: something that a set is told, or a question with its answer.
 
 use remembered::RememberedSet;
-use remembered::tally::pairs;
+use remembered::count::pairs;
 
 #[derive(Clone, Copy)]
 pub enum Case {

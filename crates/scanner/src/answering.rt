@@ -1,9 +1,9 @@
-// The calls of scripts. A refused call leaves the space as it was.
+// The calls. A refused call leaves the space as it was.
 use crate::counts::capped;
 use crate::failure::Failure;
 use crate::objects::{ObjectId, Shape};
 use crate::space::{Slot, Space};
-use script::{Answer, Call, Refusal, Usage};
+use script::{Access, Answer, Call, Refusal, Usage};
 use thiserror::Error;
 
 const MOST_WORDS: usize = 3072;
@@ -18,7 +18,8 @@ enum CallError {
 }
 
 impl Space {
-    pub(crate) fn answer(&mut self, call: Call) -> Result<Answer, Failure> {
+    /// Does the call, and gives its answer.
+    pub fn answer(&mut self, call: Call) -> Result<Answer, Failure> {
         self.perform(call).or_else(|error| match error {
             CallError::Refused(refusal) => Ok(Answer::Refused(refusal)),
             CallError::Stopped(failure) => Err(failure),
@@ -33,15 +34,22 @@ impl Space {
                 refs,
                 words,
             } => self.make(root, kind, refs, words),
-            Call::Link { root, slot, from } => self.link(root, slot, from),
-            Call::Follow { root, from, slot } => self.follow(root, from, slot),
-            Call::Drop { root } => Ok(self.set_root(root, None)?),
-            Call::Put { root, word, value } => self.put(root, word, value),
-            Call::Lift { root, word, by } => self.lift(root, word, by),
-            Call::Get { root, word } => Ok(Answer::Value(self.data_word(root, word)?)),
-            Call::Same { root, other } => Ok(Answer::Same(self.root(root)? == self.root(other)?)),
+            Call::Access(access) => self.access(access),
             Call::Step => Ok(Answer::Step(self.step()?)),
             Call::Tally => Ok(Answer::Tally(self.tally())),
+        }
+    }
+
+    fn access(&mut self, access: Access) -> Result<Answer, CallError> {
+        match access {
+            Access::Link { root, slot, from } => self.link(root, slot, from),
+            Access::Follow { root, from, slot } => self.follow(root, from, slot),
+            Access::Drop { root } => Ok(self.set_root(root, None)?),
+            Access::Put { root, word, value } => self.put(root, word, value),
+            Access::Lift { root, word, by } => self.lift(root, word, by),
+            Access::Get { root, word } => Ok(Answer::Value(self.data_word(root, word)?)),
+            Access::Words { root, room } => self.words(root, room),
+            Access::Same { root, other } => Ok(Answer::Same(self.root(root)? == self.root(other)?)),
         }
     }
 
@@ -137,6 +145,16 @@ impl Space {
         let old = self.data_word(root, word)?;
         let value = old.checked_add_signed(by).ok_or(Refusal::Range)?;
         self.put(root, word, value)
+    }
+
+    // The buffer is the caller's, and only its room is known here: nothing is written to it.
+    fn words(&self, root: u32, room: usize) -> Result<Answer, CallError> {
+        let owner = self.root_object(root)?;
+        let count = self.object(owner)?.words.len();
+        if room < count {
+            return Err(Refusal::Buffer.into());
+        }
+        Ok(Answer::Words(capped(count, u32::MAX)))
     }
 
     fn tally(&self) -> Usage {

@@ -9,11 +9,11 @@ pub enum Failure {
     /// The player found no memory.
     #[error("no memory is left")]
     Memory(#[from(alloc)] AllocError),
-    /// No car was free. The limit on the words in use rules it out; it is told apart so that it cannot pass unseen.
+    /// No car was free. The limit on the words in use rules it out; it has a case of its own so that it cannot pass unseen.
     #[error("no car is free")]
     NoCar,
-    /// A number stood for no object. Objects are only added, so each number given out stands for one; it is told apart
-    /// for the same reason.
+    /// A number stood for no object. Objects are only added, so each number given out stands for one; it has a case
+    /// of its own for the same reason.
     #[error("an object is missing")]
     NoObject,
     /// Fewer than 64 bytes were left for an output line. The output has 64 for each, so this is ruled out too.

@@ -17,3 +17,4 @@ mod trains;
 pub use failure::Failure;
 pub use playing::{PlayError, play};
 pub use sets::{Choice, Pair, Remembered};
+pub use space::Space;

@@ -28,8 +28,9 @@ impl Slot {
     }
 }
 
+/// A space. It is fed call by call, as a play does from a script's lines.
 #[derive(Drop)]
-pub(crate) struct Space {
+pub struct Space {
     pub(crate) heap: Global,
     /// Every object ever made, the lost ones too.
     pub(crate) objects: Vec<Object>,
@@ -41,7 +42,8 @@ pub(crate) struct Space {
 }
 
 impl Space {
-    pub(crate) fn open(heap: Global, choice: Choice) -> Space {
+    /// A space with empty roots and no objects.
+    pub fn open(heap: Global, choice: Choice) -> Space {
         Space {
             heap,
             objects: Vec::new(heap),

@@ -4,11 +4,11 @@ use crate::failure::Failure;
 use crate::objects::ObjectId;
 use crate::requests::{MoveRequest, MoveRequests};
 use crate::space::Space;
-use script::{Freed, Report};
+use script::{Report, StepKind};
 
 // What a step reports for an empty space.
 const IDLE: Report = Report {
-    kind: Freed::Idle,
+    kind: StepKind::Idle,
     out: 0,
     back: 0,
     copied: 0,
@@ -46,7 +46,7 @@ impl Space {
         self.trains.drop_first_train();
         self.mark = None;
         Report {
-            kind: Freed::Train,
+            kind: StepKind::Train,
             lost: capped(lost, u16::MAX),
             looked: capped(looked, u32::MAX),
             cars: capped(cars.len(), u8::MAX),
@@ -70,7 +70,7 @@ impl Space {
         self.note_carried(&carried.objects)?;
         self.update_mark(mark_goes, carried.out, outside);
         Ok(Report {
-            kind: Freed::Car,
+            kind: StepKind::Car,
             out: carried.out,
             back: carried.back,
             copied: capped(carried.words, u8::MAX),
@@ -106,10 +106,16 @@ impl Space {
             .count()
     }
 
-    // Looks again, in the order of `slots`, at whatever slot is in a carried object or holds one.
+    // Notes the slots that were corrected, then the slots of each carried object, in the order of carrying.
     fn note_carried(&mut self, carried: &[ObjectId]) -> Result<(), Failure> {
-        for slot in &self.slots()? {
-            if carried.contains(&slot.owner) || carried.contains(&slot.holds) {
+        let slots = self.slots()?;
+        for slot in &slots {
+            if !carried.contains(&slot.owner) && carried.contains(&slot.holds) {
+                self.note_slot(*slot)?;
+            }
+        }
+        for object in carried {
+            for slot in slots.iter().filter(|slot| slot.owner == *object) {
                 self.note_slot(*slot)?;
             }
         }

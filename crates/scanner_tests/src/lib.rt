@@ -13,3 +13,5 @@ mod refusals;
 mod remembered;
 #[cfg(test)]
 mod trains;
+#[cfg(test)]
+mod words;

@@ -2,7 +2,10 @@
 #![tactic(auto)]
 
 pub use calls::{
-    Answer, Call, Freed, LineFault, PlayerFault, Position, Refusal, Report, Usage, WordFault,
+    Access, Answer, Call, LineFault, PlayerFault, Position, Refusal, Report, StepKind, Usage,
+    WordFault,
 };
-pub use script_reader::{Line, Lines, TooLong, line_at, lines_within, read};
+pub use script_reader::{
+    Line, Lines, Token, TooLong, Word, line_at, lines_within, nth_word, read, read_line,
+};
 pub use script_writer::{LINE_ROOM, NoRoom, write_answer, write_fault};

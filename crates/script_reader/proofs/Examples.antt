@@ -1,8 +1,13 @@
 -- Lines read by the definitions alone.
-use Rattle.std.proofs.Common.{◌≡◌, negsuc, Ok, Err, codes, refl}
+use Rattle.std.proofs.Common.{◌≡◌, [], ◌∷◌, ◌++◌, negsuc, Ok, Err, codes, refl}
+use Rattle.std.specs.Fmt.{digits}
 use Rattle.calls.specs.declared.call.Call.TheVariants as call
+use Rattle.calls.specs.declared.call.Access.TheVariants as access
 use Rattle.calls.specs.Faults.{bad_words, no_number, line_fault, player_fault}
+use Rattle.script_reader.specs.Lines.{Walks}
 use Rattle.script_reader.specs.Reader.{line_of, player_of}
+use Rattle.script_reader.specs.Spelling.{spelled, Spells}
+use Rattle.script_reader.proofs.Walks.{walked}
 
 pub leading_zero : line_of 1 (codes "drop 07") ≡ Err (line_fault (no_number 1 5))
 leading_zero = refl
@@ -25,17 +30,34 @@ missing_word = refl
 pub words-first : line_of 2 (codes "put 01 2 3 4") ≡ Err (bad_words 2 11)
 words-first = refl
 
-pub largest : line_of 1 (codes "put 0 0 4294967295") ≡ Ok (call.Put 0 0 4294967295)
+pub largest : line_of 1 (codes "put 0 0 4294967295") ≡ Ok (call.Access (access.Put 0 0 4294967295))
 largest = refl
 
 pub too_large : line_of 1 (codes "put 0 0 4294967296") ≡ Err (line_fault (no_number 1 8))
 too_large = refl
 
-pub lowered : line_of 1 (codes "lift 1 0 -10") ≡ Ok (call.Lift 1 0 (negsuc 9))
+pub lowered : line_of 1 (codes "lift 1 0 -10") ≡ Ok (call.Access (access.Lift 1 0 (negsuc 9)))
 lowered = refl
 
-pub least : line_of 1 (codes "lift 1 0 -2147483648") ≡ Ok (call.Lift 1 0 (negsuc 2147483647))
+pub least : line_of 1 (codes "lift 1 0 -2147483648") ≡ Ok (call.Access (access.Lift 1 0 (negsuc 2147483647)))
 least = refl
 
 pub minus-zero : line_of 1 (codes "lift 1 0 -0") ≡ Err (line_fault (no_number 1 9))
 minus-zero = refl
+
+pub lift_spelled : spelled (call.Access (access.Lift 1 0 (negsuc 9))) ≡ codes "lift 1 0 -10"
+unfolding digits
+lift_spelled = refl
+
+pub make_spelled : spelled (call.Make 31 1 63 0) ≡ codes "make 31 1 63 0"
+unfolding digits
+make_spelled = refl
+
+pub step_spelled : spelled call.Step ≡ codes "step"
+step_spelled = refl
+
+pub words_not-in_script : Spells (codes "words 0 15") (call.Access (access.Words 0 15)) → ⊥
+words_not-in_script s = s.call
+
+pub walked_lines : Walks (codes "step" ++ 10 ∷ 10 ∷ codes "tally") 0 (codes "step" ∷ [] ∷ codes "tally" ∷ [])
+walked_lines = walked (codes "step" ++ 10 ∷ 10 ∷ codes "tally")

@@ -9,7 +9,7 @@ use Rattle.script_reader.specs.declared.lines.Line.{Line}
 abbrev pub is_byte : ℕ → ℕ → Bool
 is_byte c b = b == c
 
--- the lines of a script, without the byte 10 that ends each; the last may lack it, but is then not empty
+-- the lines of a script, without the byte 10 that ends each; bytes behind the last byte 10 are a line too
 abbrev pub lines : List ℕ → List (List ℕ)
 lines [] = []
 lines (b ∷ bs) = cond (is_byte 10 b) ([] ∷ lines bs) (onto_first b (lines bs))
@@ -28,6 +28,19 @@ pub record BeginsLine (script : List ℕ) (start : ℕ) (l : Line) : Type 0 wher
 abbrev pub LineAt : List ℕ → ℕ → Option Line → Type 0
 LineAt script start None = length script ≤ start
 LineAt script start (Some l) = BeginsLine script start l
+
+-- going from line to line, at first to the one at start and from each on to its `next`, until no line begins there, meets
+-- these texts
+pub data Walks (script : List ℕ) : ℕ → List (List ℕ) → Type 0 where
+  ends : {start : ℕ} → LineAt script start None → Walks script start []
+  goes_on : {start : ℕ} {texts : List (List ℕ)} (l : Line) → LineAt script start (Some l) → Walks script l.next texts → Walks script start (l.text.now ∷ texts)
+
+-- from the front of each script there is a walk, each walk meets the script's lines in their order, and they are as many as
+-- are counted
+pub record WalksMeetLines : Type 0 where
+  pub walked : (script : List ℕ) → Walks script 0 (lines script)
+  pub in_order : (script : List ℕ) (texts : List (List ℕ)) → Walks script 0 texts → texts ≡ lines script
+  pub counted : (script : List ℕ) (texts : List (List ℕ)) (n : ℕ) → Walks script 0 texts → lines_within script ≡ Some n → length texts ≡ n
 
 -- the bytes are cut at the first byte stop into what stands before it and what stands behind it, if it is there
 pub record CutsAt (stop : ℕ) (bytes before : List ℕ) (behind : Option (Bor (List ℕ))) : Type 0 where

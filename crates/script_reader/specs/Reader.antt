@@ -4,6 +4,7 @@ use Rattle.std.specs.Option.{ok_or, unwrap_or}
 use Rattle.std.specs.Result.{result_map_both}
 use Rattle.calls.specs.declared.call.Call.{Call}
 use Rattle.calls.specs.declared.call.Call.TheVariants as call
+use Rattle.calls.specs.declared.call.Access.TheVariants as access
 use Rattle.script_reader.specs.declared.names.Name.{Name}
 use Rattle.script_reader.specs.declared.names.Name.TheVariants.{Make, Link, Follow, Drop, Put, Lift, Get, Same, Step, Tally}
 use Rattle.calls.specs.declared.faults.WordFault.{WordFault}
@@ -48,33 +49,33 @@ numbers_of Link n line = do
   root ← natural_at n line 1
   slot ← natural_at n line 2
   from ← natural_at n line 3
-  Ok (call.Link root slot from)
+  Ok (call.Access (access.Link root slot from))
 numbers_of Follow n line = do
   root ← natural_at n line 1
   from ← natural_at n line 2
   slot ← natural_at n line 3
-  Ok (call.Follow root from slot)
+  Ok (call.Access (access.Follow root from slot))
 numbers_of Drop n line = do
   root ← natural_at n line 1
-  Ok (call.Drop root)
+  Ok (call.Access (access.Drop root))
 numbers_of Put n line = do
   root ← natural_at n line 1
   word ← natural_at n line 2
   value ← natural_at n line 3
-  Ok (call.Put root word value)
+  Ok (call.Access (access.Put root word value))
 numbers_of Lift n line = do
   root ← natural_at n line 1
   word ← natural_at n line 2
   by ← integer_at n line 3
-  Ok (call.Lift root word by)
+  Ok (call.Access (access.Lift root word by))
 numbers_of Get n line = do
   root ← natural_at n line 1
   word ← natural_at n line 2
-  Ok (call.Get root word)
+  Ok (call.Access (access.Get root word))
 numbers_of Same n line = do
   root ← natural_at n line 1
   other ← natural_at n line 2
-  Ok (call.Same root other)
+  Ok (call.Access (access.Same root other))
 numbers_of Step n line = Ok call.Step
 numbers_of Tally n line = Ok call.Tally
 

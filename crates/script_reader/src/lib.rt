@@ -8,5 +8,6 @@ mod pieces;
 pub mod reader;
 pub mod words;
 
-pub use lines::{Line, Lines, TooLong, line_at, lines_within};
-pub use reader::read;
+pub use lines::{Line, Lines, TooLong, line_at, lines_within, walks_meet_lines};
+pub use reader::{read, read_line};
+pub use words::{Token, Word, nth_word};

@@ -3,7 +3,7 @@
 ghost use Rattle.std.specs.Prelude.{◌≡◌, ℕ, List};
 ghost use Rattle.std.specs.Result.{result_ok};
 ghost use Rattle.std.specs.Iterator.{YieldsFirstRef, item_count};
-ghost use Rattle.script_reader.specs.Lines.{lines, lines_within, LineAt, CutsLine};
+ghost use Rattle.script_reader.specs.Lines.{lines, lines_within, LineAt, CutsLine, WalksMeetLines};
 
 use crate::pieces::cut_at;
 use std::marker::Model;
@@ -101,3 +101,9 @@ pub fn line_at<'a>(script: &'a [u8], start: usize) -> Option<Line<'a>>
         next: script.len() - rest.len(),
     })
 }
+
+/// Going from line to line: whoever begins at 0 and goes on from each line that `line_at` gives to its `next` meets all
+/// lines of the script, in order, and they are as many as `lines_within` counts.
+pub fn walks_meet_lines()
+    ensures { WalksMeetLines }
+{}

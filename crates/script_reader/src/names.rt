@@ -27,7 +27,7 @@ impl<'a> TryFrom<&'a [u8]> for Name {
 
     ghost try_from_gives = { λ text named. named ≡ ok_or (called text.now) unknown_name };
 
-    #[tactic(auto, using(crate::proofs::Spelling::called_follow))]
+    #[tactic(auto, using(crate::proofs::LongName::called_follow))]
     fn try_from(text: &'a [u8]) -> Result<Name, UnknownName> {
         match text {
             b"make" => Ok(Name::Make),

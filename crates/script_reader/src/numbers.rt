@@ -72,8 +72,8 @@ impl Numeral for i32 {
     }
 }
 
-/// Reading and writing fit: each number in range is read from its digits, after a minus sign if it is negative, and
-/// from no other bytes.
+/// Reading undoes writing: the digits of a number in range, behind a minus sign where it is negative, are read as it, and
+/// no other bytes are.
 pub fn numbers_are_read_back()
     ensures { NumbersReadBack }
 {}

@@ -1,13 +1,14 @@
 // Reads a line as a call. All that is wrong with the words of a line is told before anything wrong with its numbers.
-ghost use Rattle.std.specs.Prelude.{◌≡◌, ◌≤◌};
+ghost use Rattle.std.specs.Prelude.{◌≡◌, ◌≤◌, ◌↔◌, Ok};
 ghost use Rattle.calls.specs.Faults.{position_at};
+ghost use Rattle.script_reader.specs.Spelling.{Spells};
 ghost use Rattle.script_reader.specs.Words.{piece};
 ghost use Rattle.script_reader.specs.Reader.{word, number_at, numbers_of, name_of, counted, line_of, player_of};
 
 use crate::names::Name;
 use crate::numbers::Numeral;
 use crate::words::{Token, Word, nth_word};
-use calls::call::Call;
+use calls::call::{Access, Call};
 use calls::faults::{LineFault, PlayerFault, Position, WordFault};
 
 /// A line, and its number in its script.
@@ -76,37 +77,37 @@ impl<'a> NumberedLine<'a> {
                 refs: self.number_at(3)?,
                 words: self.number_at(4)?,
             },
-            Name::Link => Call::Link {
+            Name::Link => Call::Access(Access::Link {
                 root: self.number_at(1)?,
                 slot: self.number_at(2)?,
                 from: self.number_at(3)?,
-            },
-            Name::Follow => Call::Follow {
+            }),
+            Name::Follow => Call::Access(Access::Follow {
                 root: self.number_at(1)?,
                 from: self.number_at(2)?,
                 slot: self.number_at(3)?,
-            },
-            Name::Drop => Call::Drop {
+            }),
+            Name::Drop => Call::Access(Access::Drop {
                 root: self.number_at(1)?,
-            },
-            Name::Put => Call::Put {
+            }),
+            Name::Put => Call::Access(Access::Put {
                 root: self.number_at(1)?,
                 word: self.number_at(2)?,
                 value: self.number_at(3)?,
-            },
-            Name::Lift => Call::Lift {
+            }),
+            Name::Lift => Call::Access(Access::Lift {
                 root: self.number_at(1)?,
                 word: self.number_at(2)?,
                 by: self.number_at(3)?,
-            },
-            Name::Get => Call::Get {
+            }),
+            Name::Get => Call::Access(Access::Get {
                 root: self.number_at(1)?,
                 word: self.number_at(2)?,
-            },
-            Name::Same => Call::Same {
+            }),
+            Name::Same => Call::Access(Access::Same {
                 root: self.number_at(1)?,
                 other: self.number_at(2)?,
-            },
+            }),
             Name::Step => Call::Step,
             Name::Tally => Call::Tally,
         })
@@ -126,9 +127,10 @@ pub fn read_line(line: &[u8], number: u32) -> Result<Call, LineFault>
     Ok(line.call(name)?)
 }
 
-/// What the player is told: the call, or the reader's fault.
+/// What the player is told: the call, or the reader's fault. A line is read as the call that it spells, and as no other.
 pub fn read(line: &[u8], number: u32) -> Result<Call, PlayerFault>
-    ensures { result ≡ player_of number line.now }
+    ensures told { result ≡ player_of number line.now }
+    ensures spelling { (call : Call) → (result ≡ Ok call) ↔ Spells line.now call }
 {
     Ok(read_line(line, number)?)
 }

@@ -1,5 +1,5 @@
 // Which call a line asks for, and which fault it has.
-use script::{Call, PlayerFault, Position, read};
+use script::{Access, Call, PlayerFault, Position, read};
 use std::process::Abort;
 
 fn asks(rt: &impl Abort, line: &[u8], wanted: Call) {
@@ -27,33 +27,41 @@ fn every_call_is_read(rt: HostRuntime) {
     asks(
         &rt,
         b"link 1 2 3",
-        Call::Link {
+        Call::Access(Access::Link {
             root: 1,
             slot: 2,
             from: 3,
-        },
+        }),
     );
     asks(
         &rt,
         b"follow 1 2 3",
-        Call::Follow {
+        Call::Access(Access::Follow {
             root: 1,
             from: 2,
             slot: 3,
-        },
+        }),
     );
-    asks(&rt, b"drop 31", Call::Drop { root: 31 });
+    asks(&rt, b"drop 31", Call::Access(Access::Drop { root: 31 }));
     asks(
         &rt,
         b"put 4 5 4294967295",
-        Call::Put {
+        Call::Access(Access::Put {
             root: 4,
             word: 5,
             value: 4_294_967_295,
-        },
+        }),
     );
-    asks(&rt, b"get 4 5", Call::Get { root: 4, word: 5 });
-    asks(&rt, b"same 4 5", Call::Same { root: 4, other: 5 });
+    asks(
+        &rt,
+        b"get 4 5",
+        Call::Access(Access::Get { root: 4, word: 5 }),
+    );
+    asks(
+        &rt,
+        b"same 4 5",
+        Call::Access(Access::Same { root: 4, other: 5 }),
+    );
     asks(&rt, b"step", Call::Step);
     asks(&rt, b"tally", Call::Tally);
 }
@@ -63,38 +71,38 @@ fn a_lift_goes_both_ways(rt: HostRuntime) {
     asks(
         &rt,
         b"lift 1 2 2147483647",
-        Call::Lift {
+        Call::Access(Access::Lift {
             root: 1,
             word: 2,
             by: 2_147_483_647,
-        },
+        }),
     );
     asks(
         &rt,
         b"lift 1 2 0",
-        Call::Lift {
+        Call::Access(Access::Lift {
             root: 1,
             word: 2,
             by: 0,
-        },
+        }),
     );
     asks(
         &rt,
         b"lift 1 2 -1",
-        Call::Lift {
+        Call::Access(Access::Lift {
             root: 1,
             word: 2,
             by: -1,
-        },
+        }),
     );
     asks(
         &rt,
         b"lift 1 2 -2147483648",
-        Call::Lift {
+        Call::Access(Access::Lift {
             root: 1,
             word: 2,
             by: -2_147_483_648,
-        },
+        }),
     );
     faults(&rt, b"lift 1 2 2147483648", 10, 9);
     faults(&rt, b"lift 1 2 -2147483649", 10, 9);

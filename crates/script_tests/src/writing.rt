@@ -1,7 +1,7 @@
 // The line that stands for an answer or a fault, and what is left alone round it.
 use script::{
-    Answer, Freed, LineFault, NoRoom, PlayerFault, Position, Refusal, Report, Usage, write_answer,
-    write_fault,
+    Answer, LineFault, NoRoom, PlayerFault, Position, Refusal, Report, StepKind, Usage,
+    write_answer, write_fault,
 };
 use std::process::Abort;
 
@@ -34,6 +34,9 @@ fn short_answers(rt: HostRuntime) {
     answers(&rt, Answer::Value(10), b"0 10\n");
     answers(&rt, Answer::Value(907), b"0 907\n");
     answers(&rt, Answer::Value(4_294_967_295), b"0 4294967295\n");
+    answers(&rt, Answer::Words(0), b"0 0\n");
+    answers(&rt, Answer::Words(15), b"0 15\n");
+    answers(&rt, Answer::Refused(Refusal::Buffer), b"7\n");
     answers(&rt, Answer::Same(true), b"0 1\n");
     answers(&rt, Answer::Same(false), b"0 0\n");
 }
@@ -48,7 +51,7 @@ fn long_answers(rt: HostRuntime) {
     };
     answers(&rt, Answer::Tally(usage), b"0 3072 28 8 1\n");
     let report = Report {
-        kind: Freed::Car,
+        kind: StepKind::Car,
         out: 1,
         back: 0,
         copied: 3,
@@ -58,7 +61,7 @@ fn long_answers(rt: HostRuntime) {
     };
     answers(&rt, Answer::Step(report), b"0 car 1 0 3 0 16 1\n");
     let largest = Report {
-        kind: Freed::Train,
+        kind: StepKind::Train,
         out: 255,
         back: 254,
         copied: 253,
@@ -72,7 +75,7 @@ fn long_answers(rt: HostRuntime) {
         b"0 train 255 254 253 65535 4294967295 252\n",
     );
     let idle = Report {
-        kind: Freed::Idle,
+        kind: StepKind::Idle,
         out: 0,
         back: 0,
         copied: 0,

@@ -1,7 +1,7 @@
 -- Lines written by the definitions alone.
 use Rattle.std.proofs.Common.{◌≡◌, true, [], ◌∷◌, ◌++◌, codes, refl}
 use Rattle.calls.specs.declared.answer.Answer.TheVariants.{Refused, Value, Tally, Step}
-use Rattle.calls.specs.declared.answer.Freed.TheVariants.{Car}
+use Rattle.calls.specs.declared.answer.StepKind.TheVariants.{Car}
 use Rattle.calls.specs.declared.answer.Refusal.TheVariants.{Range}
 use Rattle.calls.specs.Faults.{bad_words, player_fault}
 use Rattle.std.specs.Fmt.{digits}

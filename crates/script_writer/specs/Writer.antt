@@ -1,9 +1,9 @@
 -- The output lines, and where they are written.
 use Rattle.std.specs.Prelude.{◌≡◌, ℕ, ◌+◌, ◌<◌, ◌≤◌, Bool, List, [], ◌∷◌, ◌++◌, length, take, drop, Some, None, codes, Option}
 use Rattle.calls.specs.declared.answer.Answer.{Answer}
-use Rattle.calls.specs.declared.answer.Answer.TheVariants.{Refused, Done, Value, Same, Tally, Step}
-use Rattle.calls.specs.declared.answer.Freed.{Freed}
-use Rattle.calls.specs.declared.answer.Freed.TheVariants.{Idle, Train, Car}
+use Rattle.calls.specs.declared.answer.Answer.TheVariants.{Refused, Done, Value, Words, Same, Tally, Step}
+use Rattle.calls.specs.declared.answer.StepKind.{StepKind}
+use Rattle.calls.specs.declared.answer.StepKind.TheVariants.{Idle, Train, Car}
 use Rattle.calls.specs.declared.faults.PlayerFault.{PlayerFault}
 use Rattle.calls.specs.declared.faults.PlayerFault.TheVariants.{Reader}
 use Rattle.calls.specs.Faults.{fault_number, fault_position}
@@ -12,10 +12,10 @@ use Rattle.std.specs.Fmt.{decimal}
 use Rattle.std.specs.Int.{from_bool}
 
 -- the kind of a step's report
-abbrev pub freed_word : Freed → List ℕ
-freed_word Idle = codes "idle"
-freed_word Train = codes "train"
-freed_word Car = codes "car"
+abbrev pub kind_word : StepKind → List ℕ
+kind_word Idle = codes "idle"
+kind_word Train = codes "train"
+kind_word Car = codes "car"
 
 -- yes is 1, and no is 0
 abbrev pub flag : Bool → List ℕ
@@ -36,10 +36,11 @@ abbrev pub parts : Answer → List (List ℕ)
 parts (Refused r) = []
 parts Done = []
 parts (Value n) = decimal n ∷ []
+parts (Words n) = decimal n ∷ []
 parts (Same b) = flag b ∷ []
 parts (Tally u) = decimal u.words ∷ decimal u.cars ∷ decimal u.trains ∷ flag u.mark ∷ []
 parts (Step s) =
-    freed_word s.kind ∷ decimal s.out ∷ decimal s.back ∷ decimal s.copied ∷ decimal s.lost ∷ decimal s.looked ∷ decimal s.cars ∷ []
+    kind_word s.kind ∷ decimal s.out ∷ decimal s.back ∷ decimal s.copied ∷ decimal s.lost ∷ decimal s.looked ∷ decimal s.cars ∷ []
 
 -- the line that answers a call
 abbrev pub answer_line : Answer → List ℕ

@@ -1,21 +1,21 @@
 // The output line of an answer and of a fault.
 ghost use Rattle.std.specs.Prelude.{◌≡◌, ◌<◌, ◌≤◌, [], ◌∷◌, ◌++◌, length};
 ghost use Rattle.std.specs.Result.{result_ok};
-ghost use Rattle.script_writer.specs.Writer.{freed_word, answer_line, fault_line, WritesLine};
+ghost use Rattle.script_writer.specs.Writer.{kind_word, answer_line, fault_line, WritesLine};
 ghost use Rattle.script_writer.specs.declared.line.TheConstants.{LINE_ROOM};
 
 pub use crate::line::LINE_ROOM;
 use crate::line::{Line, NoRoom};
-use calls::{Answer, Freed, PlayerFault};
+use calls::{Answer, PlayerFault, StepKind};
 
-fn freed_name(kind: Freed) -> &'static str
-    ensures word { result.now ≡ freed_word kind }
+fn kind_name(kind: StepKind) -> &'static str
+    ensures word { result.now ≡ kind_word kind }
     ensures short { length result.now ≤ 5 }
 {
     match kind {
-        Freed::Idle => "idle",
-        Freed::Train => "train",
-        Freed::Car => "car",
+        StepKind::Idle => "idle",
+        StepKind::Train => "train",
+        StepKind::Car => "car",
     }
 }
 
@@ -28,7 +28,7 @@ fn put_answer(line: &mut Line, answer: Answer)
     match answer {
         Answer::Refused(refusal) => line.push_digits(refusal.number()),
         Answer::Done => line.push_text("0"),
-        Answer::Value(value) => {
+        Answer::Value(value) | Answer::Words(value) => {
             line.push_text("0");
             line.push_number(value);
         }
@@ -45,7 +45,7 @@ fn put_answer(line: &mut Line, answer: Answer)
         }
         Answer::Step(report) => {
             line.push_text("0");
-            line.push_word(freed_name(report.kind));
+            line.push_word(kind_name(report.kind));
             line.push_number(report.out);
             line.push_number(report.back);
             line.push_number(report.copied);
