@@ -87,7 +87,7 @@ claims_done (w ∷ ws) left =
     subst (AllByRecursion (Done c.left)) (sym (claimed_row w.rank t.taken c.taken))
     (all_++ _ t.taken (claimed c.taken) (done_less t.left c.left (claims_less ws t.left) t.taken (claim_done w.who left)) (claims_done ws t.left))
 
--- no object that was wished is left
+-- no object that was asked for is left
 pub claims_none : (ws : List MoveRequest) (left : List Obj) → AllByRecursion (λ w. times w.who (claims ws left).left ≡ 0) ws
 claims_none [] left = tt
 claims_none (w ∷ ws) left =

@@ -1,4 +1,4 @@
--- AllByRecursion call keeps the space sound.
+-- Every call keeps the space sound.
 use Rattle.std.proofs.Common.{◌≡◌, ℕ, zero, suc, ◌+◌, ◌<◌, ◌≤◌, Bool, true, false, cond, eqb, List, [], ◌∷◌, ◌++◌, length, get_or, replicate, Some, None, Option, sym, refl, ap, ◌∙◌, subst, inl, inr, arith, not, sum_by}
 use Rattle.std.proofs.lemmas.Bool.{ne_eqb, leb-true, ltb-false, cases_eq, cases_lt, eqb-true, not-false}
 use Rattle.std.specs.List.{AllByRecursion}
@@ -284,7 +284,7 @@ module _ (f : Car) (cs : Train) (ts : Trains) (m : Model) (s : SoundAt m.made m.
       let t = trim-first x R g in
       (t.0, omega (arith, t.1, (length-place_all (f.number ∷ []) c.taken (cs ∷ ts) below s.few).0))
 
-  -- what is wished from elsewhere leaves the first train if it lies in the first car
+  -- what is asked for from elsewhere leaves the first train if it lies in the first car
   pub leaves : (x : ℕ) → Requested x (away m.roots m.mark f cs ts) → 1 ≤ times x f.objects → 1 ≤ out_of (carried f cs ts m).taken
   leaves x w l =
       subst (λ ws. 1 ≤ out_of (claims ws f.objects).taken) (sym (requests_split m.roots m.mark f cs ts))

@@ -96,7 +96,7 @@ away_ranks rs mk f cs ts h mks =
 pub requests_above : (ts : Trains) (ws : List MoveRequest) → Ranks (Sends ts) ws → AllByRecursion (λ w. 1 ≤ w.rank) ws
 requests_above ts = all_map _ _ (λ w s. s.0)
 
--- what is wished from outside is wished among those sent away
+-- what is asked for from outside is asked for among those sent away
 pub outside-away : (rs : Roots) (mk : Option MoveRequest) (f : Car) (cs : Train) (ts : Trains) (x : ℕ)
     → Requested x (outside rs ((f ∷ cs) ∷ ts) ts) → Requested x (away rs mk f cs ts)
 outside-away rs mk f cs ts x h = go (ref_requests (arrival ((f ∷ cs) ∷ ts)) rs) h

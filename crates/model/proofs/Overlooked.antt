@@ -24,23 +24,23 @@ use Rattle.model.proofs.RememberSlots.{train_order}
 use Rattle.model.proofs.Remember.{Shaped, Within, all_within, numbered_at, shaped_at, slot_addresses, slots_hold, slots_remembered}
 
 -- Addresses that rise, from lo on and below hi.
-abbrev Rises : (lo hi : ℕ) → List ℕ → Type 0
+abbrev pub Rises : (lo hi : ℕ) → List ℕ → Type 0
 Rises lo hi [] = lo ≤ hi
 Rises lo hi (x ∷ xs) = (lo ≤ x) × Rises (x + 1) hi xs
 
-rises_from : (lo low hi : ℕ) (xs : List ℕ) → low ≤ lo → Rises lo hi xs → Rises low hi xs
+pub rises_from : (lo low hi : ℕ) (xs : List ℕ) → low ≤ lo → Rises lo hi xs → Rises low hi xs
 rises_from lo low hi [] l r = omega (arith, r)
 rises_from lo low hi (x ∷ xs) l r = (omega (arith, r.0), r.1)
 
-rises_bound : (lo hi : ℕ) (xs : List ℕ) → Rises lo hi xs → lo ≤ hi
+pub rises_bound : (lo hi : ℕ) (xs : List ℕ) → Rises lo hi xs → lo ≤ hi
 rises_bound lo hi [] r = r
 rises_bound lo hi (x ∷ xs) r = omega (arith, r.0, rises_bound (x + 1) hi xs r.1)
 
-rises-append : (lo mid hi : ℕ) (xs ys : List ℕ) → Rises lo mid xs → Rises mid hi ys → Rises lo hi (xs ++ ys)
+pub rises-append : (lo mid hi : ℕ) (xs ys : List ℕ) → Rises lo mid xs → Rises mid hi ys → Rises lo hi (xs ++ ys)
 rises-append lo mid hi [] ys r q = rises_from mid lo hi ys r q
 rises-append lo mid hi (x ∷ xs) ys r q = (r.0, rises-append (x + 1) mid hi xs ys r.1 q)
 
-rises_within : (lo hi : ℕ) (xs : List ℕ) → Rises lo hi xs → AllByRecursion (λ x. (lo ≤ x) × (x < hi)) xs
+pub rises_within : (lo hi : ℕ) (xs : List ℕ) → Rises lo hi xs → AllByRecursion (λ x. (lo ≤ x) × (x < hi)) xs
 rises_within lo hi [] r = tt
 rises_within lo hi (x ∷ xs) r =
     let b = rises_bound (x + 1) hi xs r.1 in
@@ -56,7 +56,7 @@ distinct-append [] ys p q a = q
 distinct-append (x ∷ xs) ys p q a =
     IsDistinct-cons eqb x (xs ++ ys) (all_++ (λ y. eqb x y ≡ false) xs ys (IsDistinct-head eqb x xs p) a.0) (distinct-append xs ys (IsDistinct-tail eqb x xs p) q a.1)
 
-abbrev address_of : Slot → ℕ
+abbrev pub address_of : Slot → ℕ
 address_of s = s.address
 
 module _ (M : ShapeTable) (law : Lawful M) where
@@ -72,7 +72,7 @@ module _ (M : ShapeTable) (law : Lawful M) where
             (λ some. omega (arith, q, (law.apart s o ok).refs_rise j (j + 1) (omega arith) (omega (arith, l, some)))),
       )
 
-  objects_rise : (n a : ℕ) (os : List Obj) → AllByRecursion (λ o. Shaped M o.body) os → Rises a (a + words_of os) (map address_of (object_slots M n a os))
+  pub objects_rise : (n a : ℕ) (os : List Obj) → AllByRecursion (λ o. Shaped M o.body) os → Rises a (a + words_of os) (map address_of (object_slots M n a os))
   objects_rise n a [] p = omega arith
   objects_rise n a (o ∷ os) p =
       let q = p.0 in

@@ -65,7 +65,7 @@ test_fits false true n r o e f = refuses n
 test_fits false false n r o e f = absurd (both_ways false refl e)
 
 -- what is in a root lies in a car
-inside_of : (os : List Obj) (x : ℕ) → 1 ≤ times x os → (b : Body) × (inside os x ≡ Some b)
+pub inside_of : (os : List Obj) (x : ℕ) → 1 ≤ times x os → (b : Body) × (inside os x ≡ Some b)
 inside_of [] x h = absurd (omega (arith, h))
 inside_of (o ∷ os) x h = go (eqb x o.id) refl (inside_of os x)
   where

@@ -1,4 +1,4 @@
--- AllByRecursion cars in one row: seats, slots and numbers go by it, and placing an object changes it at one place.
+-- All cars in one list: the places of cars, slots and numbers go by it, and placing an object changes it at one place.
 use Rattle.std.proofs.Common.{◌≡◌, ℕ, zero, suc, ◌+◌, ◌*◌, ◌<◌, ◌≤◌, Bool, true, false, eqb, ◌⊎◌, List, [], ◌∷◌, ◌++◌, length, Some, None, Option, sym, refl, ap, ◌∙◌, subst, inl, inr, append_assoc, arith, cond, flat_map}
 use Rattle.std.proofs.lemmas.Bool.{both_ways, cases_Bool, eqb-false, ltb-true, ltb-false, or_parts, or_from}
 use Rattle.std.specs.List.{IsDistinct, AllByRecursion}

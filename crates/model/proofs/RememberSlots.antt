@@ -261,7 +261,7 @@ point_noted M has r x i v keeps = noted_altered M x (with_ref i v) keeps has r A
     go c o a p false e =
         refs_same M (ToldOf has r Always c) (ToldOf has r (But x i) c) o.id v (less c o.id) o.body.shape a 0 o.body.refs p
 
--- The same by seats.
+-- The same by the places of cars.
 
 abbrev pub ToldSlot : (Updates → Pairs) → Updates → (ℕ → ℕ → ℕ → Type 0) → (n : ℕ) → Train → Slot → Type 0
 ToldSlot has r E n t s =

@@ -25,7 +25,7 @@ use Rattle.model.proofs.Alters.{objects-alter, alter_all}
 use Rattle.model.proofs.Keeps.{inside_body, step_all, sound_of}
 use Rattle.model.proofs.Totals.{is, one_if, sums}
 
--- an object has inside what its slice_get has
+-- an object has inside what the entry of its identity has
 abbrev pub Twin : List Body → Obj → Type 0
 Twin es o = slice_get es o.id ≡ Some o.body
 
@@ -34,7 +34,7 @@ pub record Sim (g : Graph) (m : Model) : Type 0 where
   pub made : m.made ≡ length g.entries
   pub twins : AllByRecursion (Twin g.entries) (all_objects m)
 
--- what is found in the cars is the slice_get
+-- what is found in the cars is what the entry has
 pub inside-entry : (es : List Body) (os : List Obj) (x : ℕ) → AllByRecursion (Twin es) os → 1 ≤ times x os → inside os x ≡ slice_get es x
 inside-entry es [] x a h = absurd (omega (arith, h))
 inside-entry es (o ∷ os) x a h = go (inside-entry es os x a.1) (eqb x o.id) refl
@@ -88,7 +88,7 @@ alter-length [] x f = refl
 alter-length (d ∷ es) zero f = refl
 alter-length (d ∷ es) (suc x) f = omega (arith, alter-length es x f)
 
--- an object and its slice_get are changed alike
+-- an object and its entry are changed alike
 twin_alter : (es : List Body) (x : ℕ) (f : Body → Body) (o : Obj) → Twin es o → Twin (alter_entry x f es) (alter_object x f o)
 twin_alter es x f o t = go (eqb x o.id) refl
   where

@@ -26,7 +26,7 @@ use Rattle.model.specs.Claims.{MoveRequest}
 use Rattle.model.proofs.Totals.{is, one_if, sums}
 use Rattle.model.proofs.Closure.{is_self}
 
-inside_lies : (os : List Obj) (x : ℕ) (b : Body) → inside os x ≡ Some b → 1 ≤ times x os
+pub inside_lies : (os : List Obj) (x : ℕ) (b : Body) → inside os x ≡ Some b → 1 ≤ times x os
 inside_lies [] x b e = absurd (let z : ◌≡◌ {A = ℕ} 0 1 = cc in omega arith)
 inside_lies (o ∷ os) x b e = omega (arith, sums, go (inside_lies os x b) (eqb x o.id) e)
   where
@@ -35,7 +35,7 @@ inside_lies (o ∷ os) x b e = omega (arith, sums, go (inside_lies os x b) (eqb 
     go more false e = omega (arith, more e)
 
 -- an object is found under its identity, if each identity is there once
-inside_self : (os : List Obj) → ((x : ℕ) → times x os ≤ 1) → AllByRecursion (λ o. inside os o.id ≡ Some o.body) os
+pub inside_self : (os : List Obj) → ((x : ℕ) → times x os ≤ 1) → AllByRecursion (λ o. inside os o.id ≡ Some o.body) os
 inside_self [] h = tt
 inside_self (o ∷ os) h = (
   ap (λ (t : Bool). option_map (λ (p : Obj). p.body) (cond t (Some o) (find (λ (p : Obj). eqb o.id p.id) os))) (eq-eqb o.id o.id refl),

@@ -1,0 +1,9 @@
+pub mod Marks
+pub mod Turns
+pub mod Standing
+pub mod Outcomes
+pub mod Requests
+pub mod Claimed
+pub mod Places
+pub mod Visits
+pub mod Orders

@@ -1,0 +1,3 @@
+pub mod Words
+pub mod Marks
+pub mod Claimed

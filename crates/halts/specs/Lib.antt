@@ -1,0 +1,4 @@
+pub mod Objects
+pub mod Reached
+pub mod Matching
+pub mod HaltLaws

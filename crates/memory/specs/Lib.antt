@@ -1,0 +1,5 @@
+pub mod Heap
+pub mod Stands
+pub mod Replies
+pub mod Found
+pub mod Noting

@@ -1,0 +1,14 @@
+pub mod Seating
+pub mod Locating
+pub mod Filling
+pub mod Steps
+pub mod Fixing
+pub mod Correcting
+pub mod Standing
+pub mod Turns
+pub mod Rooms
+pub mod Gathered
+pub mod Enough
+pub mod Whole
+pub mod Telling
+pub mod Outsiders

@@ -1,0 +1,9 @@
+pub mod Objects
+pub mod Written
+pub mod Frames
+pub mod Places
+pub mod Locates
+pub mod Changes
+pub mod SlotWords
+pub mod NewObjects
+pub mod Corrections

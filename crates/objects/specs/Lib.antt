@@ -1,0 +1,4 @@
+pub mod Lies
+pub mod Locate
+pub mod Words
+pub mod Stand

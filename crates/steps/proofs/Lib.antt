@@ -1,0 +1,17 @@
+pub mod Rows
+pub mod Counting
+pub mod Told
+pub mod Finding
+pub mod Forgetting
+pub mod Freeing
+pub mod ClaimingSlots
+pub mod ClaimingRequests
+pub mod ClaimingRanks
+pub mod ClaimingFirst
+pub mod MarkLaws
+pub mod EmptyingReady
+pub mod EmptyingSlots
+pub mod EmptyingWhole
+pub mod FinishingNotes
+pub mod FinishingState
+pub mod FinishingStep

@@ -1,0 +1,5 @@
+pub mod Fills
+pub mod Orders
+pub mod Table
+pub mod Apart
+pub mod Ties
