@@ -12,3 +12,4 @@ pub mod Enough
 pub mod Whole
 pub mod Telling
 pub mod Outsiders
+pub mod Carried

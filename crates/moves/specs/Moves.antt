@@ -1,5 +1,5 @@
 -- Moving the claimed objects of the car that is emptied into their trains, one after another.
-use Rattle.std.specs.Prelude.{◌≡◌, ℕ, ◌+◌, ◌/◌, ◌*◌, ◌<◌, ◌≤◌, List, [], ◌∷◌, length, take, slice_index, ◌≢◌}
+use Rattle.std.specs.Prelude.{◌≡◌, ℕ, ◌+◌, ◌/◌, ◌*◌, ◌<◌, ◌≤◌, List, [], ◌∷◌, length, map, take, slice_index, ◌≢◌}
 use Rattle.std.specs.List.{AllByRecursion, Contains}
 use Rattle.layout.specs.declared.Shape.{Shape}
 use Rattle.layout.specs.ShapeTable.{ShapeTable}
@@ -9,7 +9,8 @@ use Rattle.model.specs.Step.{placing, claimed}
 use Rattle.model.specs.Trains.{Car, Trains, objects, times, car_words, most_trains}
 use Rattle.objects.specs.Lies.{ArePlaced}
 use Rattle.objects.specs.Locate.{locate}
-use Rattle.claims.specs.Claimed.{place_of}
+use Rattle.claims.specs.declared.Claim.{Claim}
+use Rattle.claims.specs.Claimed.{place_of, claim_of}
 use Rattle.trains.specs.Fills.{Placement}
 use Rattle.moves.specs.Fills.{emptying}
 use Rattle.moves.specs.Seats.{RowLies, cars_of}
@@ -50,3 +51,9 @@ pub record AreMoved (M : ShapeTable) (code : Shape → ℕ) (q : Carrying) (k : 
   pub forwards : AllByRecursion (λ o. slice_index forward (place_of q.at q.emptied o) ≡ locate (moved_to q k) o.id) (claimed (take k q.row))
   -- the table leads out of the car
   pub away : (i : ℕ) → i < car_words → slice_index forward i / car_words ≢ q.emptied.number
+
+-- the car and the claims, in order, are those of a carrying that can begin
+pub record Carries (M : ShapeTable) (code : Shape → ℕ) (words : List ℕ) (p : Placement) (car : ℕ) (order : List Claim) (q : Carrying) : Type 0 where
+  pub ready : CanMove M code q words p
+  pub car_is : car ≡ q.emptied.number
+  pub order_is : order ≡ map (claim_of q.at q.emptied) q.row

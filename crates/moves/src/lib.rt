@@ -4,7 +4,6 @@
 pub mod fixes;
 pub mod moves;
 pub mod notes;
-pub mod pass;
 
 /// How many words a car has.
 pub(crate) const CAR_WORDS: u32 = 128;

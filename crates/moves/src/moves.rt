@@ -2,9 +2,8 @@
 
 ghost use Rattle.std.specs.Prelude.{◌≡◌, ℕ, ◌+◌, map, length, replicate};
 ghost use Rattle.model.specs.Step.{out_of, back_of, copied_of};
-ghost use Rattle.claims.specs.Claimed.{claim_of};
 ghost use Rattle.moves.specs.Copies.{HasRoom, HasMoved, told_size};
-ghost use Rattle.moves.specs.Moves.{Carrying, CanMove, AreMoved};
+ghost use Rattle.moves.specs.Moves.{Carrying, Carries, AreMoved};
 
 use crate::CAR_WORDS;
 use claims::{Claim, Claims};
@@ -57,14 +56,11 @@ pub fn move_claimed<L: Layout>(
     car: u32,
     claims: &Claims,
 ) -> Moved
-    ghost carrying: { Carrying }
-    requires ready { CanMove L.table L.code carrying words.old trains.old }
-    requires car { car ≡ carrying.emptied.number }
-    requires order { claims.now ≡ map (claim_of carrying.at carrying.emptied) carrying.row }
-    ensures moved { AreMoved L.table L.code carrying (length carrying.row) words.new forward.new trains.new }
-    ensures out { result.out ≡ out_of carrying.row }
-    ensures back { result.back ≡ back_of carrying.row }
-    ensures copied { result.copied ≡ copied_of carrying.row }
+    requires known { (q : Carrying) × Carries L.table L.code words.old trains.old car claims.now q }
+    ensures moved { (q : Carrying) → Carries L.table L.code words.old trains.old car claims.now q → AreMoved L.table L.code q (length q.row) words.new forward.new trains.new }
+    ensures out { (q : Carrying) → Carries L.table L.code words.old trains.old car claims.now q → result.out ≡ out_of q.row }
+    ensures back { (q : Carrying) → Carries L.table L.code words.old trains.old car claims.now q → result.back ≡ back_of q.row }
+    ensures copied { (q : Carrying) → Carries L.table L.code words.old trains.old car claims.now q → result.copied ≡ copied_of q.row }
 {
     clear_table(forward);
     let mut out = 0;

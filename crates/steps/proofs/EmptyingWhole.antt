@@ -1,5 +1,5 @@
 -- The memory once what was claimed was moved out of the first car.
-use Rattle.std.proofs.Common.{◌≡◌, ℕ, ◌<◌, ◌≤◌, Bool, true, false, cond, List, [], ◌∷◌, length, get_or, map, filter, Option, Some, None, sym, refl, ap, ◌∙◌, subst, arith}
+use Rattle.std.proofs.Common.{◌≡◌, ℕ, ◌<◌, ◌≤◌, Bool, true, false, cond, List, [], ◌∷◌, length, get_or, map, filter, Option, Some, None, sym, refl, ap, ◌∙◌, subst, arith, ◌/◌, flat_map}
 use Rattle.std.proofs.lemmas.Bool.{ltb-false}
 use Rattle.std.proofs.lemmas.List.{get_or-map, length-set}
 use Rattle.std.specs.List.{AllByRecursion}
@@ -12,7 +12,7 @@ use Rattle.model.specs.Notes.{slots, corrected}
 use Rattle.model.specs.Sound.{SoundAt, Marked}
 use Rattle.model.specs.Space.{Model, carried}
 use Rattle.model.specs.Step.{claimed, mark_after}
-use Rattle.model.specs.Trains.{Car, Train, Trains, objects, times, among}
+use Rattle.model.specs.Trains.{Car, Train, Trains, objects, times, among, car_words}
 use Rattle.model.proofs.RememberCars.{cars_in_row, Numbered}
 use Rattle.model.proofs.Totals.{sums}
 use Rattle.objects.specs.Lies.{word_of, HoldsItsOwn}
@@ -28,11 +28,13 @@ use Rattle.memory.specs.Heap.{Heap}
 use Rattle.memory.specs.Stands.{halted, mark_at}
 use Rattle.memory.proofs.Held.{Halt}
 use Rattle.moves.specs.Fills.{emptying}
-use Rattle.moves.specs.Fixes.{CanFix, moved_out, addresses_of, fixed, fix_at, fix_each, moved_references, IsOutside}
+use Rattle.moves.specs.Fixes.{CanFix, moved_out, addresses_of, fixed, fix_at, fix_each, moved_references, IsOutside, own_references}
 use Rattle.moves.specs.Moves.{CanMove, AreMoved}
 use Rattle.moves.proofs.Fixing.{fixed-other, fixed-at}
-use Rattle.moves.proofs.Whole.{outside_by, slots_inside_by, stand_by, roots_by}
+use Rattle.moves.proofs.Turns.{fix_each_outside}
+use Rattle.moves.proofs.Whole.{headers, own_outside, others_outside, outside_by, slots_inside_by, stand_by, roots_by}
 use Rattle.steps.specs.Emptying.{CanEmptyFrom, IsEmptied, placed_out, carrying_of}
+use Rattle.steps.specs.Finishing.{CanFinishFrom}
 use Rattle.steps.specs.Marks.{mark_left}
 use Rattle.steps.proofs.MarkLaws.{marks_follow}
 use Rattle.steps.proofs.EmptyingReady as ready
@@ -137,4 +139,42 @@ module _ (M : ShapeTable) (code : Shape → ℕ) (decoded : ℕ → Offsets) (la
       mark = mark_now mk mark_is;
       used = r.stands.used;
       forwards = forwards;
+    }
+
+    references_by : (w : List ℕ) → ((k : ℕ) → k / car_words ≡ f.number → get_or w k 0 ≡ get_or v k 0)
+        → moved_references decoded w forward car order ≡ flat_map (own_references M (locate (moved_out (carrying_of m f cs ts)))) (claimed (carried f cs ts m).taken)
+    references_by w same =
+        ap (λ n. moved_references decoded w forward n order) r.car_is ∙ (ap (moved_references decoded w forward f.number) r.order_is
+        ∙ headers M code decoded law coded (carrying_of m f cs ts) s.words p₀ (can_move p₀ start) can_fix v forward p moved w same)
+
+    abbrev own : List ℕ
+    own = flat_map (own_references M (locate (moved_out (carrying_of m f cs ts)))) (claimed (carried f cs ts m).taken)
+
+    abbrev others : List ℕ
+    others = addresses_of (filter (corrected (claimed (carried f cs ts m).taken)) (slots M 0 (moved_out (carrying_of m f cs ts))))
+
+    fixed_are : (w₁ w₂ : List ℕ) → w₁ ≡ fix_each car forward (moved_references decoded v forward car order) v → w₂ ≡ fix_each car forward addresses w₁
+        → w₂ ≡ fix_each f.number forward others (fix_each f.number forward own v)
+    fixed_are w₁ w₂ first then-is =
+        then-is ∙ (ap (fix_each car forward addresses) first
+        ∙ (ap (λ xs. fix_each car forward addresses (fix_each car forward xs v)) (references_by v (λ k e. refl))
+        ∙ (ap (λ xs. fix_each car forward xs (fix_each car forward own v)) slots_are
+        ∙ ap (λ n. fix_each n forward others (fix_each n forward own v)) r.car_is)))
+
+    -- the emptied car is as it was
+    car_kept : (k : ℕ) → k / car_words ≡ f.number → get_or (fix_each f.number forward others (fix_each f.number forward own v)) k 0 ≡ get_or v k 0
+    car_kept k e =
+        fix_each_outside f.number forward others (fix_each f.number forward own v) k (others_outside M code decoded law coded (carrying_of m f cs ts) s.words p₀ (can_move p₀ start) can_fix v forward p moved) e
+        ∙ fix_each_outside f.number forward own v k (own_outside M code decoded law coded (carrying_of m f cs ts) s.words p₀ (can_move p₀ start) can_fix v forward p moved) e
+
+    -- what the rest of a step has to know
+    pub can-finish : (w₁ w₂ : List ℕ) → w₁ ≡ fix_each car forward (moved_references decoded v forward car order) v → w₂ ≡ fix_each car forward addresses w₁
+        → CanFinishFrom M decoded m f cs ts forward car order addresses w₂
+    can-finish w₁ w₂ first then-is = record {
+      trains = r.trains;
+      root_count = r.stands.root_count;
+      car_is = r.car_is;
+      slots_are = subst (λ us. addresses ≡ addresses_of (filter (corrected (claimed (carried f cs ts m).taken)) (slots M 0 us))) placed_is slots_are;
+      references_are = subst (λ us. moved_references decoded w₂ forward car order ≡ flat_map (own_references M (locate us)) (claimed (carried f cs ts m).taken)) placed_is
+          (references_by w₂ (λ k e. ap (λ w. get_or w k 0) (fixed_are w₁ w₂ first then-is) ∙ car_kept k e));
     }

@@ -15,3 +15,4 @@ pub mod EmptyingWhole
 pub mod FinishingNotes
 pub mod FinishingState
 pub mod FinishingStep
+pub mod Branches

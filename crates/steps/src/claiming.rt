@@ -175,7 +175,7 @@ fn claim_requests<L: Layout>(
 
 /// What goes out of the first car: gathers the slots of other cars that hold an object of it, and claims its objects for the
 /// roots, for the mark, for slots of other trains, and for slots of the first train, in this order.
-pub fn claim_all<R: RememberedSet, L: Layout>(
+pub(crate) fn claim_all<R: RememberedSet, L: Layout>(
     memory: &Memory,
     set: &R,
     claims: &mut Claims,

@@ -1,13 +1,13 @@
 //! The end of a step that emptied the first car.
 
-ghost use Rattle.std.specs.Prelude.{◌≡◌, Some, ◌∷◌, length};
+ghost use Rattle.std.specs.Prelude.{◌≡◌, Some, ◌∷◌};
 ghost use Rattle.model.specs.Claims.{MoveRequest};
-ghost use Rattle.model.specs.Space.{space_of, carried, free_car, looked as pairs_looked_at};
-ghost use Rattle.model.specs.Step.{first_to, outside, out_of, back_of, copied_of};
+ghost use Rattle.model.specs.Space.{space_of, free_car, looked as pairs_looked_at};
+ghost use Rattle.model.specs.Step.{first_to, outside};
 ghost use Rattle.model.specs.Trains.{train_objects};
 ghost use Rattle.memory.specs.Stands.{mark_at};
-ghost use Rattle.steps.specs.Emptying.{Leaving, IsEmptied};
-ghost use Rattle.steps.specs.Finishing.{CanFinish};
+ghost use Rattle.steps.specs.Emptying.{Leaving};
+ghost use Rattle.steps.specs.Finishing.{CanEnd};
 ghost use Rattle.steps.specs.Steps.{Steps};
 
 use crate::mark::set_mark;
@@ -24,7 +24,7 @@ use remembered::RememberedSet;
 /// moved objects, the car is free again, and the guard sets a mark if it has to. `asked` is what the first reference from
 /// outside asks for, by the address before the move; `lost` is how many objects of the car were not claimed, and so many
 /// pairs were looked at.
-pub fn finish<L: Layout, R: RememberedSet>(
+pub(crate) fn finish<L: Layout, R: RememberedSet>(
     memory: &mut Memory,
     set: &mut R,
     forward: &[u32; 128],
@@ -36,17 +36,11 @@ pub fn finish<L: Layout, R: RememberedSet>(
     lost: u16,
     looked: u32,
 ) -> Report
-    ghost leaving: { Leaving }
-    requires emptied { IsEmptied L.table L.code (space_of L.table leaving.history) leaving.first leaving.cars leaving.rest forward.now memory.old }
-    requires ready { CanFinish L.table L.decoded leaving forward.now car claims.now slots.now memory.old.words }
-    requires out { moved.out ≡ out_of (carried leaving.first leaving.cars leaving.rest (space_of L.table leaving.history)).taken }
-    requires back { moved.back ≡ back_of (carried leaving.first leaving.cars leaving.rest (space_of L.table leaving.history)).taken }
-    requires copied { moved.copied ≡ copied_of (carried leaving.first leaving.cars leaving.rest (space_of L.table leaving.history)).taken }
-    requires lost { lost ≡ length (carried leaving.first leaving.cars leaving.rest (space_of L.table leaving.history)).left }
-    ensures { (w : MoveRequest)
-        → first_to (train_objects (leaving.first ∷ leaving.cars)) (outside (space_of L.table leaving.history).roots ((leaving.first ∷ leaving.cars) ∷ leaving.rest) leaving.rest) ≡ Some w
-        → asked ≡ mark_at (space_of L.table leaving.history).trains w → looked ≡ pairs_looked_at (R.has set.old) (leaving.first ∷ leaving.cars)
-        → Steps L.table L.code R.has R.says (free_car L.table w leaving.first leaving.cars leaving.rest (space_of L.table leaving.history)) result memory.new set.old set.new }
+    requires known { (e : Leaving) × CanEnd L.table L.code L.decoded forward.now car claims.now slots.now moved.out moved.back moved.copied lost memory.old e }
+    ensures { (e : Leaving) → CanEnd L.table L.code L.decoded forward.now car claims.now slots.now moved.out moved.back moved.copied lost memory.old e → (w : MoveRequest)
+        → first_to (train_objects (e.first ∷ e.cars)) (outside (space_of L.table e.history).roots ((e.first ∷ e.cars) ∷ e.rest) e.rest) ≡ Some w
+        → asked ≡ mark_at (space_of L.table e.history).trains w → looked ≡ pairs_looked_at (R.has set.old) (e.first ∷ e.cars)
+        → Steps L.table L.code R.has R.says (free_car L.table w e.first e.cars e.rest (space_of L.table e.history)) result memory.new set.old set.new }
 {
     set.forget(car);
     note_slots(set, &memory.words, &memory.trains, slots);

@@ -1,4 +1,4 @@
-//! The parts of a step of the collector.
+//! A step of the collector, and the parts that it is made of.
 #![tactic(auto)]
 
 mod claiming;
@@ -8,10 +8,7 @@ mod mark;
 mod others;
 mod outside;
 mod train;
+mod whole;
 
-pub use claiming::claim_all;
-pub use emptying::move_out;
-pub use finishing::finish;
-pub use mark::{mark_left, marks_follow_the_model, set_mark};
-pub use outside::{Findings, find_outside};
-pub use train::free_train;
+pub use mark::marks_follow_the_model;
+pub use whole::step;

@@ -8,7 +8,7 @@ use memory::Mark;
 use trains::CAR_WORDS;
 
 /// The mark once a car is freed: it goes if its object lay in that car.
-pub fn mark_left(mark: Option<Mark>, car: u32) -> Option<Mark>
+pub(crate) fn mark_left(mark: Option<Mark>, car: u32) -> Option<Mark>
     ensures { result ≡ marks.mark_left car mark }
 {
     match mark {
@@ -19,7 +19,7 @@ pub fn mark_left(mark: Option<Mark>, car: u32) -> Option<Mark>
 
 /// The guard against futile steps: with no mark, and no object that left the first train, the mark that the first reference
 /// from outside asks for is set.
-pub fn set_mark(mark: Option<Mark>, out: u32, asked: Mark) -> Option<Mark>
+pub(crate) fn set_mark(mark: Option<Mark>, out: u32, asked: Mark) -> Option<Mark>
     ensures { result ≡ guarded mark out asked }
 {
     match mark {

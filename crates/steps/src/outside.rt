@@ -19,7 +19,7 @@ use trains::{CAR_WORDS, Trains};
 
 /// What a step finds before it acts.
 #[derive(Clone, Copy, Debug, PartialEq, Eq)]
-pub struct Findings {
+pub(crate) struct Findings {
     /// What the first reference from outside holds, and the rank of the train to which it sends; none, if nothing outside the
     /// first train holds an object of it.
     pub first: Option<Mark>,
@@ -56,7 +56,7 @@ fn asked_first(memory: &Memory, slot: Option<u32>) -> Option<Mark>
 
 /// Finds the first reference from outside the first train: roots come first, by their numbers, then slots of other trains, in
 /// the order of the cars and then by address. Looks at each pair of the first train's cars, and counts them.
-pub fn find_outside<R: RememberedSet, L: Layout>(memory: &Memory, set: &R) -> Findings
+pub(crate) fn find_outside<R: RememberedSet, L: Layout>(memory: &Memory, set: &R) -> Findings
     requires known { Remembers L.table L.code (R.has set.now) memory.now }
     requires train { 0 < length memory.now.trains.trains }
     ensures first { (h : History) (t : Train) (ts : CarTrains) → Stands L.table L.code (space_of L.table h) memory.now

@@ -20,7 +20,7 @@ use remembered::RememberedSet;
 use trains::{CAR_WORDS, Trains};
 
 // How many objects a car has, of which so many words are filled.
-fn objects_in<L: Layout>(words: &[u32; 8192], car: u32, filled: u32) -> u32
+pub(crate) fn objects_in<L: Layout>(words: &[u32; 8192], car: u32, filled: u32) -> u32
     requires car { car < 64 }
     requires filled { filled ≤ 128 }
     ensures objects { (at : ℕ → ℕ) (c : Car) → CarStands L.table L.code at words.now c → c.number ≡ car → words_of c.objects ≡ filled
@@ -78,7 +78,7 @@ fn forget_cars<R: RememberedSet>(set: &mut R, cars: &[u32])
 
 /// The first train ends: all its objects are lost, and the set forgets its cars, in order. A mark goes with it. So many pairs
 /// were looked at.
-pub fn free_train<R: RememberedSet, L: Layout>(
+pub(crate) fn free_train<R: RememberedSet, L: Layout>(
     memory: &mut Memory,
     set: &mut R,
     looked: u32,

@@ -15,82 +15,88 @@ use Rattle.steps.proofs.finishing.finish.Goals as goal
 pub note_slots-requires : goal.note_slots-requires
 note_slots-requires g c =
     let L = g.L.Layout in
-    let e = g.leaving in
+    let e = c.requires.known.0 in
+    let end = c.requires.known.1 in
     let law = g.met.L.Layout.lawful in
     let m = space_of L.table e.history in
-    let emp = subst (λ (s : Heap). IsEmptied L.table L.code m e.first e.cars e.rest c.args.forward.now s) (sym c.memory.view_is) c.requires.1.1.0 in
-    let can = subst (λ (s : Heap). CanFinish L.table L.decoded e c.args.forward.now c.args.car c.args.claims.now c.args.slots.now s.words) (sym c.memory.view_is) c.requires.1.1.1.0 in
+    let emp = subst (λ (s : Heap). IsEmptied L.table L.code m e.first e.cars e.rest c.args.forward.now s) (sym c.memory.view_is) end.emptied in
+    let can = subst (λ (s : Heap). CanFinish L.table L.decoded e c.args.forward.now c.args.car c.args.claims.now c.args.slots.now s.words) (sym c.memory.view_is) end.ready in
     slots_below L.table L.code L.decoded law m e.first e.cars e.rest c.args.forward.now _ emp c.args.car c.args.claims.now c.args.slots.now can
 
 pub note_moved-requires-clause-car : goal.note_moved-requires-clause-car
 note_moved-requires-clause-car g c =
     let L = g.L.Layout in
-    let e = g.leaving in
+    let e = c.requires.known.0 in
+    let end = c.requires.known.1 in
     let law = g.met.L.Layout.lawful in
     let m = space_of L.table e.history in
-    let emp = subst (λ (s : Heap). IsEmptied L.table L.code m e.first e.cars e.rest c.args.forward.now s) (sym c.memory.view_is) c.requires.1.1.0 in
-    let can = subst (λ (s : Heap). CanFinish L.table L.decoded e c.args.forward.now c.args.car c.args.claims.now c.args.slots.now s.words) (sym c.memory.view_is) c.requires.1.1.1.0 in
+    let emp = subst (λ (s : Heap). IsEmptied L.table L.code m e.first e.cars e.rest c.args.forward.now s) (sym c.memory.view_is) end.emptied in
+    let can = subst (λ (s : Heap). CanFinish L.table L.decoded e c.args.forward.now c.args.car c.args.claims.now c.args.slots.now s.words) (sym c.memory.view_is) end.ready in
     car_low L.table L.code L.decoded law m e.first e.cars e.rest c.args.forward.now _ emp c.args.car c.args.claims.now c.args.slots.now can (halt_at L.table law e.history)
 
 pub note_moved-requires-clause-inside : goal.note_moved-requires-clause-inside
 note_moved-requires-clause-inside g c =
     let L = g.L.Layout in
-    let e = g.leaving in
+    let e = c.requires.known.0 in
+    let end = c.requires.known.1 in
     let law = g.met.L.Layout.lawful in
     let m = space_of L.table e.history in
-    let emp = subst (λ (s : Heap). IsEmptied L.table L.code m e.first e.cars e.rest c.args.forward.now s) (sym c.memory.view_is) c.requires.1.1.0 in
-    let can = subst (λ (s : Heap). CanFinish L.table L.decoded e c.args.forward.now c.args.car c.args.claims.now c.args.slots.now s.words) (sym c.memory.view_is) c.requires.1.1.1.0 in
+    let emp = subst (λ (s : Heap). IsEmptied L.table L.code m e.first e.cars e.rest c.args.forward.now s) (sym c.memory.view_is) end.emptied in
+    let can = subst (λ (s : Heap). CanFinish L.table L.decoded e c.args.forward.now c.args.car c.args.claims.now c.args.slots.now s.words) (sym c.memory.view_is) end.ready in
     references_below L.table L.code L.decoded law m e.first e.cars e.rest c.args.forward.now _ emp c.args.car c.args.claims.now c.args.slots.now can
 
 pub overflow_add-memory : goal.overflow_add-memory
 overflow_add-memory g c =
     let L = g.L.Layout in
-    let e = g.leaving in
+    let e = c.requires.known.0 in
+    let end = c.requires.known.1 in
     let law = g.met.L.Layout.lawful in
     let m = space_of L.table e.history in
-    let emp = subst (λ (s : Heap). IsEmptied L.table L.code m e.first e.cars e.rest c.args.forward.now s) (sym c.memory.view_is) c.requires.1.1.0 in
-    let can = subst (λ (s : Heap). CanFinish L.table L.decoded e c.args.forward.now c.args.car c.args.claims.now c.args.slots.now s.words) (sym c.memory.view_is) c.requires.1.1.1.0 in
-    omega (arith, used_fits L.table L.code L.decoded law m e.first e.cars e.rest c.args.forward.now _ emp c.args.car c.args.claims.now c.args.slots.now can (halt_at L.table law e.history) c.filled.result c.args.moved.copied c.requires.1.1.1.1.1.1.0)
+    let emp = subst (λ (s : Heap). IsEmptied L.table L.code m e.first e.cars e.rest c.args.forward.now s) (sym c.memory.view_is) end.emptied in
+    let can = subst (λ (s : Heap). CanFinish L.table L.decoded e c.args.forward.now c.args.car c.args.claims.now c.args.slots.now s.words) (sym c.memory.view_is) end.ready in
+    omega (arith, used_fits L.table L.code L.decoded law m e.first e.cars e.rest c.args.forward.now _ emp c.args.car c.args.claims.now c.args.slots.now can (halt_at L.table law e.history) c.filled.result c.args.moved.copied end.copied_is)
 
 pub overflow_cast-result : goal.overflow_cast-result
 overflow_cast-result g c =
     let L = g.L.Layout in
-    let e = g.leaving in
+    let e = c.requires.known.0 in
+    let end = c.requires.known.1 in
     let law = g.met.L.Layout.lawful in
     let m = space_of L.table e.history in
-    let emp = subst (λ (s : Heap). IsEmptied L.table L.code m e.first e.cars e.rest c.args.forward.now s) (sym c.memory.view_is) c.requires.1.1.0 in
-    let can = subst (λ (s : Heap). CanFinish L.table L.decoded e c.args.forward.now c.args.car c.args.claims.now c.args.slots.now s.words) (sym c.memory.view_is) c.requires.1.1.1.0 in
-    omega (arith, c.requires.1.1.1.1.0, (few L.table L.code L.decoded law m e.first e.cars e.rest c.args.forward.now _ emp c.args.car c.args.claims.now c.args.slots.now can (halt_at L.table law e.history)).out)
+    let emp = subst (λ (s : Heap). IsEmptied L.table L.code m e.first e.cars e.rest c.args.forward.now s) (sym c.memory.view_is) end.emptied in
+    let can = subst (λ (s : Heap). CanFinish L.table L.decoded e c.args.forward.now c.args.car c.args.claims.now c.args.slots.now s.words) (sym c.memory.view_is) end.ready in
+    omega (arith, end.out_is, (few L.table L.code L.decoded law m e.first e.cars e.rest c.args.forward.now _ emp c.args.car c.args.claims.now c.args.slots.now can (halt_at L.table law e.history)).out)
 
 pub overflow_cast-result-2 : goal.overflow_cast-result-2
 overflow_cast-result-2 g c =
     let L = g.L.Layout in
-    let e = g.leaving in
+    let e = c.requires.known.0 in
+    let end = c.requires.known.1 in
     let law = g.met.L.Layout.lawful in
     let m = space_of L.table e.history in
-    let emp = subst (λ (s : Heap). IsEmptied L.table L.code m e.first e.cars e.rest c.args.forward.now s) (sym c.memory.view_is) c.requires.1.1.0 in
-    let can = subst (λ (s : Heap). CanFinish L.table L.decoded e c.args.forward.now c.args.car c.args.claims.now c.args.slots.now s.words) (sym c.memory.view_is) c.requires.1.1.1.0 in
-    omega (arith, c.requires.1.1.1.1.1.0, (few L.table L.code L.decoded law m e.first e.cars e.rest c.args.forward.now _ emp c.args.car c.args.claims.now c.args.slots.now can (halt_at L.table law e.history)).back)
+    let emp = subst (λ (s : Heap). IsEmptied L.table L.code m e.first e.cars e.rest c.args.forward.now s) (sym c.memory.view_is) end.emptied in
+    let can = subst (λ (s : Heap). CanFinish L.table L.decoded e c.args.forward.now c.args.car c.args.claims.now c.args.slots.now s.words) (sym c.memory.view_is) end.ready in
+    omega (arith, end.back_is, (few L.table L.code L.decoded law m e.first e.cars e.rest c.args.forward.now _ emp c.args.car c.args.claims.now c.args.slots.now can (halt_at L.table law e.history)).back)
 
 pub overflow_cast-result-3 : goal.overflow_cast-result-3
 overflow_cast-result-3 g c =
     let L = g.L.Layout in
-    let e = g.leaving in
+    let e = c.requires.known.0 in
+    let end = c.requires.known.1 in
     let law = g.met.L.Layout.lawful in
     let m = space_of L.table e.history in
-    let emp = subst (λ (s : Heap). IsEmptied L.table L.code m e.first e.cars e.rest c.args.forward.now s) (sym c.memory.view_is) c.requires.1.1.0 in
-    let can = subst (λ (s : Heap). CanFinish L.table L.decoded e c.args.forward.now c.args.car c.args.claims.now c.args.slots.now s.words) (sym c.memory.view_is) c.requires.1.1.1.0 in
-    omega (arith, c.requires.1.1.1.1.1.1.0, (few L.table L.code L.decoded law m e.first e.cars e.rest c.args.forward.now _ emp c.args.car c.args.claims.now c.args.slots.now can (halt_at L.table law e.history)).copied)
+    let emp = subst (λ (s : Heap). IsEmptied L.table L.code m e.first e.cars e.rest c.args.forward.now s) (sym c.memory.view_is) end.emptied in
+    let can = subst (λ (s : Heap). CanFinish L.table L.decoded e c.args.forward.now c.args.car c.args.claims.now c.args.slots.now s.words) (sym c.memory.view_is) end.ready in
+    omega (arith, end.copied_is, (few L.table L.code L.decoded law m e.first e.cars e.rest c.args.forward.now _ emp c.args.car c.args.claims.now c.args.slots.now can (halt_at L.table law e.history)).copied)
 
 pub returns : goal.returns
-returns g c = λ w first asks seen.
+returns g c = λ e end w first asks seen.
     let R = g.R.RememberedSet in
     let L = g.L.Layout in
-    let e = g.leaving in
     let law = g.met.L.Layout.lawful in
     let m = space_of L.table e.history in
-    let emp = subst (λ (s : Heap). IsEmptied L.table L.code m e.first e.cars e.rest c.args.forward.now s) (sym c.memory.view_is) c.requires.1.1.0 in
-    let can = subst (λ (s : Heap). CanFinish L.table L.decoded e c.args.forward.now c.args.car c.args.claims.now c.args.slots.now s.words) (sym c.memory.view_is) c.requires.1.1.1.0 in
+    let emp = subst (λ (s : Heap). IsEmptied L.table L.code m e.first e.cars e.rest c.args.forward.now s) (sym c.memory.view_is) end.emptied in
+    let can = subst (λ (s : Heap). CanFinish L.table L.decoded e c.args.forward.now c.args.car c.args.claims.now c.args.slots.now s.words) (sym c.memory.view_is) end.ready in
     let halt = halt_after L.table law e.history e.first e.cars e.rest w can.trains first in
     let trains = c.memory.inside.trains in
     let words = c.memory.inside.words in
@@ -100,5 +106,5 @@ returns g c = λ w first asks seen.
     _ c.forget.ensures.others c.forget.ensures.besides c.note_slots.ensures c.note_moved.ensures
     (notes_are L.table L.code L.decoded law m e.first e.cars e.rest c.args.forward.now _ emp c.args.car c.args.claims.now c.args.slots.now can w c.args.asked halt asks trains.trains (ap (λ (p : Placement). p.trains) emp.trains)) in
     car_steps L.table L.code L.decoded law m e.first e.cars e.rest c.args.forward.now _ emp c.args.car c.args.claims.now c.args.slots.now can w c.args.asked halt asks R.has R.says c.args.set.now c.note_moved.new.set told c.args.moved.out c.args.moved.back c.args.moved.copied c.args.lost c.args.looked
-    c.requires.1.1.1.1.0 c.requires.1.1.1.1.1.0 c.requires.1.1.1.1.1.1.0 c.requires.1.1.1.1.1.1.1 seen
+    end.out_is end.back_is end.copied_is end.lost_is seen
     c.release.new.self c.release.ensures c.fixed_word-object.result c.fixed_word-object.ensures c.set_mark-memory-inside.result c.set_mark-memory-inside.ensures c.filled.result c.filled.ensures
