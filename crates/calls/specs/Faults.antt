@@ -2,8 +2,9 @@
 use Rattle.std.specs.Prelude.{ℕ}
 use Rattle.calls.specs.declared.faults.Position.{Position}
 use Rattle.calls.specs.declared.faults.WordFault.{WordFault}
+use Rattle.calls.specs.declared.faults.OtherFault.{OtherFault}
 use Rattle.calls.specs.declared.faults.LineFault.{LineFault}
-use Rattle.calls.specs.declared.faults.LineFault.TheVariants.{Words, Number}
+use Rattle.calls.specs.declared.faults.LineFault.TheVariants.{Words, Number, Other}
 use Rattle.calls.specs.declared.faults.PlayerFault.{PlayerFault}
 use Rattle.calls.specs.declared.faults.PlayerFault.TheVariants.{Reader}
 
@@ -23,6 +24,10 @@ bad_words n at = Words (position_at n at)
 abbrev pub line_fault : WordFault → LineFault
 line_fault f = Number f
 
+-- a fault of any number as its line's
+abbrev pub other_fault : OtherFault → LineFault
+other_fault f = Other f
+
 -- a line's fault as the player's
 abbrev pub player_fault : LineFault → PlayerFault
 player_fault f = Reader f
@@ -31,8 +36,10 @@ player_fault f = Reader f
 abbrev pub fault_number : LineFault → ℕ
 fault_number (Words at) = 9
 fault_number (Number f) = 10
+fault_number (Other f) = f.number
 
 -- where a fault is
 abbrev pub fault_position : LineFault → Position
 fault_position (Words at) = at
 fault_position (Number f) = f.at
+fault_position (Other f) = f.at

@@ -1,6 +1,7 @@
-// What the reader finds wrong, told layer by layer: a word's fault becomes its line's, and a line's the player's.
+// What the reader finds wrong, told layer by layer: a word's fault becomes its line's, and a line's the player's. A
+// fault of any other number goes the same way.
 ghost use Rattle.std.specs.Prelude.{◌≡◌};
-ghost use Rattle.calls.specs.Faults.{line_fault, player_fault, fault_number, fault_position};
+ghost use Rattle.calls.specs.Faults.{line_fault, other_fault, player_fault, fault_number, fault_position};
 
 /// Where a fault is.
 #[derive(Clone, Copy, PartialEq, Eq, Debug)]
@@ -17,6 +18,14 @@ pub struct WordFault {
     pub at: Position,
 }
 
+/// A fault of any number, and where it is. The reader tells none of these.
+#[derive(Clone, Copy, PartialEq, Eq, Debug)]
+pub struct OtherFault {
+    /// The number that a line shows for it.
+    pub number: u8,
+    pub at: Position,
+}
+
 /// What is wrong with a line.
 #[derive(Clone, Copy, PartialEq, Eq, Debug)]
 pub enum LineFault {
@@ -24,6 +33,8 @@ pub enum LineFault {
     Words(Position),
     /// A word writes no number that may stand there.
     Number(WordFault),
+    /// A fault that is told by its number.
+    Other(OtherFault),
 }
 
 /// What ends a play early, by the part of the player that it comes from.
@@ -40,6 +51,7 @@ impl LineFault {
         match self {
             LineFault::Words(_) => 9,
             LineFault::Number(_) => 10,
+            LineFault::Other(other) => other.number,
         }
     }
 
@@ -49,6 +61,7 @@ impl LineFault {
     {
         match self {
             LineFault::Words(at) | LineFault::Number(WordFault { at }) => at,
+            LineFault::Other(other) => other.at,
         }
     }
 }
@@ -59,6 +72,14 @@ impl From<WordFault> for LineFault {
 
     fn from(fault: WordFault) -> LineFault {
         LineFault::Number(fault)
+    }
+}
+
+impl From<OtherFault> for LineFault {
+    ghost from_gives = { λ other line. line ≡ other_fault other };
+
+    fn from(fault: OtherFault) -> LineFault {
+        LineFault::Other(fault)
     }
 }
 

@@ -7,4 +7,4 @@ pub mod faults;
 
 pub use answer::{Answer, Refusal, Report, StepKind, Usage};
 pub use call::{Access, Call};
-pub use faults::{LineFault, PlayerFault, Position, WordFault};
+pub use faults::{LineFault, OtherFault, PlayerFault, Position, WordFault};

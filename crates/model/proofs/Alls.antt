@@ -2,11 +2,11 @@
 use Rattle.std.proofs.Common.{ℕ, zero, suc, Bool, true, false, eqb, List, [], ◌∷◌, ◌++◌, length, take, Some, None, Option, cond, not, filter, sym, subst}
 use Rattle.std.specs.List.{AllByRecursion}
 use Rattle.std.proofs.lemmas.Bool.{cond_both}
-use Rattle.std.proofs.lemmas.List.{take-map}
+use Rattle.std.proofs.lemmas.List.{map-append, take-map}
 use Rattle.model.specs.Trains.{Obj, Train, Trains, train_objects, objects, place, place_at, fits, with_object, opened, numbers, lowest_free}
-use Rattle.model.specs.Claims.{Taken, take_out, in_front, scan, cheney, claim, MoveRequest, Claim, claims}
+use Rattle.model.specs.Claims.{Taken, take_out, in_front, scan, cheney, claim, MoveRequest, Claim, all_to, claims}
 use Rattle.model.specs.Step.{claimed, place_all}
-use Rattle.model.proofs.Totals.{claimed_row}
+use Rattle.model.proofs.Totals.{claimed-all_to}
 
 -- what holds of each element of lists joined, cut or mapped
 module _ {X : Type 0} (P : X → Type 0) where
@@ -75,6 +75,12 @@ module _ (P : Obj → Type 0) where
       let b = take_out_all x left p in
       then_all t.taken (cheney (length left) t.taken t.left) b.0 (cheney_all (length left) t.taken t.left b.1)
 
+  pub claimed_all_++ : (xs ys : List Claim) → AllByRecursion P (claimed xs) → AllByRecursion P (claimed ys) → AllByRecursion P (claimed (xs ++ ys))
+  claimed_all_++ xs ys p q = subst (AllByRecursion P) (sym (map-append (λ (c : Claim). c.object) xs ys)) (all_++ P (claimed xs) (claimed ys) p q)
+
+  pub all_to_all : (k : ℕ) (os : List Obj) → AllByRecursion P os → AllByRecursion P (claimed (all_to k os))
+  all_to_all k os p = subst (AllByRecursion P) (sym (claimed-all_to k os)) p
+
   -- the objects carried out of a car, and those lost, are of that car
   pub claims_all : (ws : List MoveRequest) (left : List Obj) → AllByRecursion P left → AllByRecursion P (claimed (claims ws left).taken) × AllByRecursion P (claims ws left).left
   claims_all [] left p = (tt, p)
@@ -83,7 +89,7 @@ module _ (P : Obj → Type 0) where
       let c = claims ws t.left in
       let q = claim_all w.who left p in
       let r = claims_all ws t.left q.1 in
-      (subst (AllByRecursion P) (sym (claimed_row w.rank t.taken c.taken)) (all_++ P t.taken (claimed c.taken) q.0 r.0), r.1)
+      (claimed_all_++ (all_to w.rank t.taken) c.taken (all_to_all w.rank t.taken q.0) r.0, r.1)
 
   pub claimed_all_take : (n : ℕ) (row : List Claim) → AllByRecursion P (claimed row) → AllByRecursion P (claimed (take n row))
   claimed_all_take n row p = subst (AllByRecursion P) (take-map (λ (c : Claim). c.object) n row) (all_take P n (claimed row) p)

@@ -74,6 +74,12 @@ standing_place_at k n o [] s = (place_stands n o [], tt)
 standing_place_at zero n o (t ∷ ts) s = (place_stands n o t, s.1)
 standing_place_at (suc k) n o (t ∷ ts) s = (s.0, standing_place_at k n o ts s.1)
 
+pub standing_place_all : (busy : List ℕ) (row : List Claim) (ts : Trains) → AllByRecursion HasCars ts → AllByRecursion HasCars (place_all busy row ts)
+standing_place_all busy [] ts s = s
+standing_place_all busy (c ∷ row) ts s =
+    let n = lowest_free (busy ++ numbers ts) in
+    standing_place_all busy row (place_at c.rank n c.object ts) (standing_place_at c.rank n c.object ts s)
+
 -- only the first train may have been without cars
 pub standing_trim_all : (busy : List ℕ) (row : List Claim) (cs : Train) (ts : Trains) → AllByRecursion HasCars ts → AllByRecursion HasCars (trim (place_all busy row (cs ∷ ts)))
 standing_trim_all busy [] [] ts s = s

@@ -127,6 +127,11 @@ abbrev pub Requested : ℕ → List MoveRequest → Type 0
 Requested x [] = ⊥
 Requested x (w ∷ ws) = (w.who ≡ x) ⊎ Requested x ws
 
+pub requested_left : (x : ℕ) (vs ws : List MoveRequest) → Requested x vs → Requested x (vs ++ ws)
+requested_left x [] ws h = absurd h
+requested_left x (v ∷ vs) ws (inl e) = inl e
+requested_left x (v ∷ vs) ws (inr h) = inr (requested_left x vs ws h)
+
 pub requested_right : (x : ℕ) (vs ws : List MoveRequest) → Requested x ws → Requested x (vs ++ ws)
 requested_right x [] ws h = h
 requested_right x (v ∷ vs) ws h = inr (requested_right x vs ws h)

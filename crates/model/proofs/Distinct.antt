@@ -1,5 +1,5 @@
 -- Lists of numbers, each there once, and the lowest number that is not in a list.
-use Rattle.std.proofs.Common.{◌≡◌, ℕ, zero, suc, ◌+◌, ◌<◌, ◌≤◌, Bool, true, false, ◌||◌, eqb, ◌⊎◌, List, [], ◌∷◌, ◌++◌, length, sym, refl, ap, ◌∙◌, subst, inl, inr, arith, cond, get_or, sum_by}
+use Rattle.std.proofs.Common.{◌≡◌, ℕ, zero, suc, ◌+◌, ◌-◌, ◌<◌, ◌≤◌, Bool, true, false, ◌||◌, eqb, ◌⊎◌, List, [], ◌∷◌, ◌++◌, length, sym, refl, ap, ◌∙◌, subst, inl, inr, arith, cond, get_or, sum_by}
 use Rattle.std.proofs.lemmas.Bool.{both_ways, eqb-true, eqb-false, eq-eqb, ne_eqb, or_cases, or_from, or_left, or_right, cases_lt, or_parts}
 use Rattle.std.specs.List.{range_with_len, prefix_len, AllByRecursion, IsDistinct}
 use Rattle.std.proofs.lemmas.List.Sums.{prefix_len_stops, prefix_len_passes, sum_by-cons}
@@ -53,6 +53,9 @@ one_of_left x xs ys e = list_any-append (λ (m : ℕ). eqb x m) xs ys ∙ or_lef
 
 pub one_of_right : (x : ℕ) (xs ys : List ℕ) → one_of x ys ≡ true → one_of x (xs ++ ys) ≡ true
 one_of_right x xs ys e = list_any-append (λ (m : ℕ). eqb x m) xs ys ∙ or_right (one_of x xs) (one_of x ys) e
+
+pub one_of_either : (x : ℕ) (xs ys : List ℕ) → one_of x (xs ++ ys) ≡ true → (one_of x xs ≡ true) ⊎ (one_of x ys ≡ true)
+one_of_either x xs ys e = or_cases (one_of x xs) (one_of x ys) (sym (list_any-append (λ (m : ℕ). eqb x m) xs ys) ∙ e)
 
 -- the list without the first x
 abbrev pub without : ℕ → List ℕ → List ℕ
@@ -126,26 +129,33 @@ numbered_bounds x a (suc n) e =
       | inr p ↦ (omega (arith, (numbered_bounds x (a + 1) n p).0), omega (arith, (numbered_bounds x (a + 1) n p).1))
     ]
 
-at_range : (k i : ℕ) → i < k → get_or (range_with_len 0 k) i 0 ≡ i
-at_range k i l = omega (arith, get_or-range_with_len 0 k i 0 l)
-
--- a row of fewer numbers than k leaves one below k out
-pub lowest_within : (k : ℕ) (used : List ℕ) → length used < k
-    → (prefix_len (λ n. one_of n used) (range_with_len 0 k) < k) × (one_of (prefix_len (λ n. one_of n used) (range_with_len 0 k)) used ≡ false)
-lowest_within k used h =
-    let p = λ (n : ℕ). one_of n used in
-    let ns = range_with_len 0 k in
-    let n = prefix_len p ns in
-    let l : length ns ≡ k = length-range_with_len 0 k in
-    elim (cases_lt n k) [
-      | inl below ↦ (below, subst (λ (z : ℕ). one_of z used ≡ false) (at_range k n below) (prefix_len_stops p ns 0 (omega (arith, l, below))))
+-- a row of fewer numbers than k leaves one of the k numbers from n on out
+pub lowest_within_from : (k n : ℕ) (used : List ℕ) → length used < k
+    → (prefix_len (λ m. one_of m used) (range_with_len n k) < k) × (one_of (n + prefix_len (λ m. one_of m used) (range_with_len n k)) used ≡ false)
+lowest_within_from k n used h =
+    let p = λ (m : ℕ). one_of m used in
+    let ns = range_with_len n k in
+    let i = prefix_len p ns in
+    let l : length ns ≡ k = length-range_with_len n k in
+    elim (cases_lt i k) [
+      | inl below ↦ (below, subst (λ (z : ℕ). one_of z used ≡ false) (get_or-range_with_len n k i 0 below) (prefix_len_stops p ns 0 (omega (arith, l, below))))
       | inr all ↦ absurd (
-          let within = length-within ns used (distinct_numbered 0 k) (λ z e.
-          let b : z < k = omega (arith, (numbered_bounds z 0 k e).1) in
-          subst (λ (y : ℕ). one_of y used ≡ true) (at_range k z b) (prefix_len_passes p ns z 0 (omega (arith, all, b)))) in
+          let within = length-within ns used (distinct_numbered n k) (λ z e.
+          let b = numbered_bounds z n k e in
+          let j : z - n < k = omega (arith, b.0, b.1) in
+          let at : get_or ns (z - n) 0 ≡ z = omega (arith, get_or-range_with_len n k (z - n) 0 j, b.0) in
+          subst (λ (y : ℕ). one_of y used ≡ true) at (prefix_len_passes p ns (z - n) 0 (omega (arith, all, j)))) in
           omega (arith, within, l, h)
           )
     ]
+
+pub lowest_within : (k : ℕ) (used : List ℕ) → length used < k
+    → (prefix_len (λ n. one_of n used) (range_with_len 0 k) < k) × (one_of (prefix_len (λ n. one_of n used) (range_with_len 0 k)) used ≡ false)
+lowest_within k used h =
+    let from = lowest_within_from k 0 used h in
+    let i = prefix_len (λ (n : ℕ). one_of n used) (range_with_len 0 k) in
+    let e : 0 + i ≡ i = omega arith in
+    (from.0, subst (λ (z : ℕ). one_of z used ≡ false) e from.1)
 
 pub lowest_unused : (used : List ℕ) → length used < 64 → (lowest_free used < 64) × (one_of (lowest_free used) used ≡ false)
 lowest_unused used h = lowest_within 64 used h

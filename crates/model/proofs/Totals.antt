@@ -16,7 +16,7 @@ one_if b = cond b 1 0
 abbrev pub is : ℕ → Obj → ℕ
 is x o = one_if (eqb x o.id)
 
-claimed-all_to : (k : ℕ) (os : List Obj) → claimed (all_to k os) ≡ os
+pub claimed-all_to : (k : ℕ) (os : List Obj) → claimed (all_to k os) ≡ os
 claimed-all_to k [] = refl
 claimed-all_to k (o ∷ os) = ap (λ ps. o ∷ ps) (claimed-all_to k os)
 
@@ -60,13 +60,19 @@ module _ (f : Obj → ℕ) where
       let t = take_out x left in
       omega (arith, then_total t.taken (cheney (length left) t.taken t.left), cheney-total (length left) t.taken t.left, take_out-total x left)
 
+  pub claimed-++ : (xs ys : List Claim) → sum_by f (claimed (xs ++ ys)) ≡ sum_by f (claimed xs) + sum_by f (claimed ys)
+  claimed-++ xs ys = ap (sum_by f) (map-append (λ (c : Claim). c.object) xs ys) ∙ sum_by-append f (claimed xs) (claimed ys)
+
+  pub all_to-total : (k : ℕ) (os : List Obj) → sum_by f (claimed (all_to k os)) ≡ sum_by f os
+  all_to-total k os = ap (sum_by f) (claimed-all_to k os)
+
   -- each object of the car is claimed or left
   pub claims-total : (ws : List MoveRequest) (left : List Obj) → sum_by f (claimed (claims ws left).taken) + sum_by f (claims ws left).left ≡ sum_by f left
   claims-total [] left = omega arith
   claims-total (w ∷ ws) left =
       let t = claim w.who left in
       let c = claims ws t.left in
-      omega (arith, sums, ap (sum_by f) (claimed_row w.rank t.taken c.taken), claims-total ws t.left, claim-total w.who left)
+      omega (arith, claimed-++ (all_to w.rank t.taken) c.taken, all_to-total w.rank t.taken, claims-total ws t.left, claim-total w.who left)
 
   pub place-total : (n : ℕ) (o : Obj) (t : Train) → sum_by f (train_objects (place n o t)) ≡ sum_by f (train_objects t) + f o
   place-total n o [] = omega arith

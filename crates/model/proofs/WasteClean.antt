@@ -5,7 +5,7 @@ use Rattle.layout.specs.declared.Shape.{Shape}
 use Rattle.layout.specs.ShapeTable.{ShapeTable, Offsets}
 use Rattle.calls.specs.declared.call.Call.{Call}
 use Rattle.calls.specs.declared.call.Call.TheVariants.{Make, Access, Step, Tally}
-use Rattle.model.specs.Bodies.{Body, Roots, fresh, shape_of, new_body, held, is_root, with_ref, with_value, Effect, leave, hold, point, store, response}
+use Rattle.model.specs.Bodies.{Body, Roots, fresh, shape_of, new_body, held, is_root, with_ref, with_value, Effect, leave, hold, point, store, response, make_outcome}
 use Rattle.model.specs.Trains.{Obj, Car, Train, Trains, train_objects, objects, place_at, numbers, lowest_free, arrival, inside, among, alter_object, alter}
 use Rattle.model.specs.Claims.{MoveRequest, ref_requests, train_requests, trains_requests, Claim, claims}
 use Rattle.model.specs.Step.{first_to, outside, mark_requests, requests, place_all, mark_after, guard}
@@ -223,3 +223,9 @@ module _ (G : ℕ → Type 0) where
   pub clean_made : (d : Body) (b r : ℕ) (m : Model) → Apart G m → Clean b m.trains → Clean b (made_by d r m).trains
   clean_made d b r m a h =
       clean_place_at b (arrival m.trains) (lowest_free (numbers m.trains)) (record { id = m.made; body = d }) m.trains (λ q. a.new m.made (omega arith)) h
+
+  -- a make refused leaves the trains as they were
+  pub clean_make : (b r : ℕ) (root_ok : Bool) (body : Option Body) (is_filled : Body → Bool) (m : Model) → Apart G m → Clean b m.trains
+      → Clean b (make_outcome root_ok body is_filled m (λ d. made_by d r m)).state.trains
+  clean_make b r root_ok body is_filled m a h =
+      make_cases (λ o. Clean b o.state.trains) root_ok body is_filled m (λ d. made_by d r m) (λ n. h) (λ d e n. clean_made d b r m a h)

@@ -199,7 +199,7 @@ module _ (f : Car) (cs : Train) (ts : Trains) (m : Model) (s : SoundAt m.made m.
 
 -- altering a body changes neither number
 module _ (y : ℕ) (g : Body → Body) where
-  count-alter : (t : Train) → sum_by one (train_objects (alter_train y g t)) ≡ sum_by one (train_objects t)
+  pub count-alter : (t : Train) → sum_by one (train_objects (alter_train y g t)) ≡ sum_by one (train_objects t)
   count-alter t = ap (sum_by one) (train_alter y g t) ∙ alter-total y g one (λ o. refl) (train_objects t)
 
   pub spot-alter : (x : ℕ) (t : Train) → spot x (alter_train y g t) ≡ spot x t

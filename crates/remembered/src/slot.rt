@@ -99,7 +99,9 @@ impl CarPairs {
         ensures count { result ≡ kept_count self.old.kept }
     {
         let count = self.count;
-        *self = CarPairs::none();
+        self.kept = BitRow::none();
+        self.overflown = false;
+        self.count = 0;
         count
     }
 

@@ -80,6 +80,11 @@ impl Object {
         .size()
     }
 
+    /// How many words of a car the object takes; none once it is lost.
+    pub(crate) fn words_in_car(&self) -> usize {
+        self.place.map_or(0, |_| self.size())
+    }
+
     pub(crate) fn lies_in(&self, car: usize) -> bool {
         self.place.is_some_and(|place| place.car == car)
     }

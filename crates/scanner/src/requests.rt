@@ -43,8 +43,8 @@ impl Space {
     }
 
     fn in_first_train(&self, object: ObjectId) -> Result<bool, Failure> {
-        let whereabouts = self.whereabouts(object)?;
-        Ok(whereabouts.is_some_and(|(_, car_place)| car_place.rank == 0))
+        let place = self.object(object)?.place;
+        Ok(place.is_some_and(|place| self.trains.first_has(place.car)))
     }
 
     // Roots, by number, send what they hold to the arrival rank.

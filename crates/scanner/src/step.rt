@@ -100,23 +100,34 @@ impl Space {
 
     // Objects that lie in this car are lost; says how many.
     fn lose_objects(&mut self, car: usize) -> usize {
-        self.objects
-            .iter_mut()
-            .filter_map(|object| object.place.take_if(|place| place.car == car))
-            .count()
+        let lost = self.objects.iter_mut().map(|object| object
+            .place
+            .take_if(|place| place.car == car)
+            .is_some());
+        total(lost.map(usize::from))
     }
 
     // Notes the slots that were corrected, then the slots of each carried object, in the order of carrying.
     fn note_carried(&mut self, carried: &[ObjectId]) -> Result<(), Failure> {
         let slots = self.slots()?;
-        for slot in &slots {
-            if !carried.contains(&slot.owner) && carried.contains(&slot.holds) {
-                self.note_slot(*slot)?;
+        // Where the slots of each carried object begin, by its number: they stand together. To look through the carried
+        // ones for each slot would take most of a step.
+        let mut begins = vec![in self.heap; None; self.objects.len()]?;
+        for object in carried {
+            *begins.get_mut(object.0).ok_or(Failure::NoObject)? = Some(slots.len());
+        }
+        for (index, &slot) in slots.iter().enumerate() {
+            if let Some(begin) = begins.get_mut(slot.owner.0).ok_or(Failure::NoObject)? {
+                *begin = index.min(*begin);
+            } else if begins.get(slot.holds.0).is_some_and(Option::is_some) {
+                self.note_slot(slot)?;
             }
         }
         for object in carried {
-            for slot in slots.iter().filter(|slot| slot.owner == *object) {
-                self.note_slot(*slot)?;
+            let begin = begins.get(object.0).copied().flatten();
+            let own = begin.and_then(|begin| slots.get(begin..)).unwrap_or(&[]);
+            for &slot in own.iter().take_while(|slot| slot.owner == *object) {
+                self.note_slot(slot)?;
             }
         }
         Ok(())

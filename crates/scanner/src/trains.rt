@@ -120,6 +120,12 @@ impl Trains {
         })
     }
 
+    /// Says whether a car is one of the first train's.
+    pub(crate) fn first_has(&self, number: usize) -> bool {
+        self.first()
+            .is_some_and(|train| train.position_of(number).is_some())
+    }
+
     // The free car of the lowest number.
     fn free_car(&self) -> Option<usize> {
         (0..CARS).find(|number| self.car_place(*number).is_none())
@@ -139,10 +145,15 @@ impl Trains {
                 cars: VecDeque::new(heap),
             })?;
         }
-        let free = self.free_car();
+        let train = self.by_rank.get(rank).ok_or(Failure::NoCar)?;
+        // All cars are gone through for a free one, so only where one is needed.
+        let opened = if train.last_has_room(size) {
+            None
+        } else {
+            Some(self.free_car().ok_or(Failure::NoCar)?)
+        };
         let train = self.by_rank.get_mut(rank).ok_or(Failure::NoCar)?;
-        if !train.last_has_room(size) {
-            let number = free.ok_or(Failure::NoCar)?;
+        if let Some(number) = opened {
             train.cars.push_back(Car::new(heap, number))?;
         }
         let last = train.cars.back_mut().ok_or(Failure::NoCar)?;

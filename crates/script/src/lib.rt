@@ -2,8 +2,8 @@
 #![tactic(auto)]
 
 pub use calls::{
-    Access, Answer, Call, LineFault, PlayerFault, Position, Refusal, Report, StepKind, Usage,
-    WordFault,
+    Access, Answer, Call, LineFault, OtherFault, PlayerFault, Position, Refusal, Report, StepKind,
+    Usage, WordFault,
 };
 pub use script_reader::{
     Line, Lines, Token, TooLong, Word, line_at, lines_within, nth_word, read, read_line,

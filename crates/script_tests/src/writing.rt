@@ -1,6 +1,6 @@
 // The line that stands for an answer or a fault, and what is left alone round it.
 use script::{
-    Answer, LineFault, NoRoom, PlayerFault, Position, Refusal, Report, StepKind, Usage,
+    Answer, LineFault, NoRoom, OtherFault, PlayerFault, Position, Refusal, Report, StepKind, Usage,
     write_answer, write_fault,
 };
 use std::process::Abort;
@@ -92,6 +92,21 @@ fn a_fault(rt: HostRuntime) {
     let mut out = [7u8; 80];
     let end = write_fault(&mut out, START, &fault);
     stands(&rt, &out, end, b"reader 9 line 4 at 8\n");
+}
+
+fn numbered(rt: &impl Abort, number: u8, text: &[u8]) {
+    let at = Position { line: 1, place: 0 };
+    let fault = PlayerFault::from(LineFault::from(OtherFault { number, at }));
+    let mut out = [7u8; 80];
+    let end = write_fault(&mut out, START, &fault);
+    stands(rt, &out, end, text);
+}
+
+#[test]
+fn faults_of_any_number(rt: HostRuntime) {
+    numbered(&rt, 77, b"reader 77 line 1 at 0\n");
+    numbered(&rt, 0, b"reader 0 line 1 at 0\n");
+    numbered(&rt, 255, b"reader 255 line 1 at 0\n");
 }
 
 #[test]

@@ -46,6 +46,10 @@ parts (Step s) =
 abbrev pub answer_line : Answer → List ℕ
 answer_line a = decimal (code_of a) ++ spaced (parts a)
 
+-- the line of a data word, or of how many there are
+abbrev pub value_line : ℕ → List ℕ
+value_line n = decimal 0 ++ spaced (decimal n ∷ [])
+
 -- the line that tells a fault, as `reader 9 line 4 at 8`
 abbrev pub fault_line : PlayerFault → List ℕ
 fault_line (Reader f) =
@@ -66,3 +70,9 @@ pub record WritesLineAt (before : List ℕ) (at : ℕ) (line after : List ℕ) (
 abbrev pub WritesLine : List ℕ → ℕ → List ℕ → List ℕ → Option ℕ → Type 0
 WritesLine before at line after None = (length before < at + 64) × (after ≡ before)
 WritesLine before at line after (Some next) = WritesLineAt before at line after next
+
+-- some bytes are written, and next is the place behind them
+pub record Puts (before : List ℕ) (at : ℕ) (bytes after : List ℕ) (next : ℕ) : Type 0 where
+  pub fits : at + length bytes ≤ length before
+  pub bytes_at : after ≡ laid before at bytes
+  pub behind : next ≡ at + length bytes

@@ -1,12 +1,10 @@
-// A line under construction, apart from the buffer that it is written to.
-ghost use Rattle.std.specs.Prelude.{◌≡◌, ℕ, ◌+◌, ◌<◌, ◌≤◌, List, [], ◌∷◌, ◌++◌, length};
-ghost use Rattle.std.specs.Result.{result_ok};
-ghost use Rattle.script_writer.specs.Writer.{WritesLine};
-ghost use Rattle.script_writer.specs.declared.line.TheConstants.{LINE_ROOM};
+// Parts of a line, put one behind another where the line stands in the buffer. The buffer and the place in it come apart:
+// a line that is built apart from the buffer and copied when it is whole takes several times as long.
+ghost use Rattle.std.specs.Prelude.{◌≡◌, ◌+◌, ◌^◌, ◌<◌, ◌≤◌, ◌∷◌, length};
+ghost use Rattle.std.specs.Fmt.{decimal};
+ghost use Rattle.script_writer.specs.Writer.{Puts};
 
-use arrayvec::ArrayString;
-use itoa::{Buffer, Integer};
-use std::marker::Model;
+use itoa::write_digits;
 use thiserror::Error;
 
 /// How many bytes stand free where a line is written; no line has more, byte 10 included.
@@ -17,73 +15,47 @@ pub const LINE_ROOM: usize = 64;
 #[error("no room for a line")]
 pub struct NoRoom;
 
-// The bytes of a line so far, in the value itself: nothing here allocates. Parts go to its end, and it is copied to its place once, when it is whole.
-#[derive(Drop)]
-pub struct Line {
-    text: ArrayString<LINE_ROOM>,
+// A text, and the place behind it.
+pub fn put_text(out: &mut [u8], at: usize, text: &[u8]) -> usize
+    requires { at + length text.now ≤ length out.old }
+    ensures { Puts out.old at text.now out.new result }
+{
+    let end = at + text.len();
+    out[at..end].copy_from_slice(text);
+    end
 }
 
-// Clauses see the bytes.
-impl Model for Line {
-    ghost Value = { List ℕ };
-
-    ghost view = { λ l. l.text.bytes };
+// How many digits a number has.
+fn width(n: u64) -> usize
+    ensures { result ≡ length (decimal n) }
+{
+    let mut count = 1;
+    let mut rest = n;
+    while rest >= 10 {
+        rest /= 10;
+        count += 1;
+    }
+    count
 }
 
-impl Line {
-    pub fn new() -> Self
-        ensures { result ≡ [] }
-    {
-        Line {
-            text: ArrayString::new(),
-        }
-    }
+// The digits of a number.
+fn put_digits(out: &mut [u8], at: usize, n: u64) -> usize
+    requires { at + 20 ≤ length out.old }
+    ensures { Puts out.old at (decimal n) out.new result }
+{
+    let end = at + width(n);
+    write_digits(n, out, end);
+    end
+}
 
-    pub fn push_text(&mut self, text: &str)
-        requires { length self.old + length text.now ≤ LINE_ROOM }
-        ensures { self.new ≡ self.old ++ text.now }
-    {
-        self.text.push_str(text);
-    }
-
-    pub fn push_digits<I: Integer>(&mut self, n: I)
-        requires { length self.old + I.MAX_STR_LEN ≤ LINE_ROOM }
-        ensures written { self.new ≡ self.old ++ I.text n }
-        ensures short { length self.new ≤ length self.old + I.MAX_STR_LEN }
-    {
-        self.push_text(Buffer::new().format(n));
-    }
-
-    // A text behind a space.
-    pub fn push_word(&mut self, text: &str)
-        requires { length self.old + 1 + length text.now ≤ LINE_ROOM }
-        ensures { self.new ≡ self.old ++ 32 ∷ text.now }
-    {
-        self.push_text(" ");
-        self.push_text(text);
-    }
-
-    // A number behind a space.
-    pub fn push_number<I: Integer>(&mut self, n: I)
-        requires { length self.old + 1 + I.MAX_STR_LEN ≤ LINE_ROOM }
-        ensures written { self.new ≡ self.old ++ 32 ∷ I.text n }
-        ensures short { length self.new ≤ length self.old + 1 + I.MAX_STR_LEN }
-    {
-        self.push_text(" ");
-        self.push_digits(n);
-    }
-
-    // Ends the line with byte 10 and copies it to `at`.
-    pub fn finish(&mut self, out: &mut [u8], at: usize) -> Result<usize, NoRoom>
-        requires { length self.old < LINE_ROOM }
-        ensures { WritesLine out.old at (self.old ++ 10 ∷ []) out.new (result_ok result) }
-    {
-        if out.len().saturating_sub(at) < LINE_ROOM {
-            return Err(NoRoom);
-        }
-        self.push_text("\n");
-        let end = at + self.text.len();
-        out[at..end].copy_from_slice(self.text.as_str().as_bytes());
-        Ok(end)
-    }
+// A number of at most `DIGITS` digits, behind a space.
+pub fn put_number<const DIGITS: usize>(out: &mut [u8], at: usize, n: u64) -> usize
+    requires room { at + 21 ≤ length out.old }
+    requires small { n < 10 ^ DIGITS }
+    requires some { 0 < DIGITS }
+    ensures put { Puts out.old at (32 ∷ decimal n) out.new result }
+    ensures short { result ≤ at + 1 + DIGITS }
+{
+    let digits = put_text(out, at, b" ");
+    put_digits(out, digits, n)
 }
