@@ -27,9 +27,8 @@ impl CardSet {
     pub fn new() -> CardSet
         ensures { HasNone (⟦<CardSet as RememberedSet>⟧.has result) }
     {
-        CardSet {
-            cars: [BitRow::none(); CARS],
-        }
+        let row = BitRow::none();
+        CardSet { cars: [row; CARS] }
     }
 
     // Whether the pair could be in the set and is not.

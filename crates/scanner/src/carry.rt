@@ -80,15 +80,14 @@ impl Space {
         rank: usize,
         carried: &mut Carried,
     ) -> Result<(), Failure> {
-        for &object in &self.held_by(owner)? {
-            self.carry_one(MoveRequest { object, rank }, carried)?;
+        // By numbers, since carrying changes the space; a row of what is held would be made for each object.
+        for index in 0..self.object(owner)?.refs.len() {
+            let held = self.object(owner)?.refs.get(index).copied().flatten();
+            if let Some(object) = held {
+                self.carry_one(MoveRequest { object, rank }, carried)?;
+            }
         }
         Ok(())
-    }
-
-    fn held_by(&self, owner: ObjectId) -> Result<Vec<ObjectId>, Failure> {
-        let refs = self.object(owner)?.refs.iter();
-        Ok(refs.flatten().copied().collect(self.heap)?)
     }
 
     // An object that is not, or no longer, in the car stays where it is.

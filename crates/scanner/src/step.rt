@@ -110,22 +110,21 @@ impl Space {
     // Notes the slots that were corrected, then the slots of each carried object, in the order of carrying.
     fn note_carried(&mut self, carried: &[ObjectId]) -> Result<(), Failure> {
         let slots = self.slots()?;
-        // Where the slots of each carried object begin, by its number: they stand together. To look through the carried
-        // ones for each slot would take most of a step.
-        let mut begins = vec![in self.heap; None; self.objects.len()]?;
-        for object in carried {
-            *begins.get_mut(object.0).ok_or(Failure::NoObject)? = Some(slots.len());
-        }
+        // Where the slots of each carried object begin: they stand together.
+        let mut begins = vec![in self.heap; slots.len(); carried.len()]?;
         for (index, &slot) in slots.iter().enumerate() {
-            if let Some(begin) = begins.get_mut(slot.owner.0).ok_or(Failure::NoObject)? {
-                *begin = index.min(*begin);
-            } else if begins.get(slot.holds.0).is_some_and(Option::is_some) {
-                self.note_slot(slot)?;
+            match carried.iter().position(|object| *object == slot.owner) {
+                Some(place) => {
+                    if let Some(begin) = begins.get_mut(place) {
+                        *begin = index.min(*begin);
+                    }
+                }
+                None if carried.contains(&slot.holds) => self.note_slot(slot)?,
+                None => {}
             }
         }
-        for object in carried {
-            let begin = begins.get(object.0).copied().flatten();
-            let own = begin.and_then(|begin| slots.get(begin..)).unwrap_or(&[]);
+        for (object, &begin) in carried.iter().zip(&begins) {
+            let own = slots.get(begin..).unwrap_or(&[]);
             for &slot in own.iter().take_while(|slot| slot.owner == *object) {
                 self.note_slot(slot)?;
             }
